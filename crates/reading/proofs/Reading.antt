@@ -1,0 +1,41 @@
+-- The laws of readers: what a `do` block that reads has read, and numbers at a place of a section.
+use mathlib.Core.Path.{_≡_, refl}
+use mathlib.Core.List.{List}
+use Prim.Native.Nat.{ℕ, _+_, _≤_, _<_}
+use native.Mathlib.Omega.{arith}
+use lib.ListN.{length, take, drop, length-drop}
+use lib.Seq.{drop-drop}
+use borrow.Author.Tests.{lt-ltb, le-ltb}
+use Rattle.reading.specs.Fault.{Fault, shortInput}
+use Rattle.reading.specs.Numbers.{leAt}
+use Rattle.reading.specs.Reader.{Read, fault, got, Reader, next, bytes, number}
+
+-- a fault is no item
+pub never : {A : Type 0} {B : Type 0} {f : Fault} {a : A} {t : List ℕ} → fault f ≡ got a t → B
+never e = absurd (let z : _≡_ {A = ℕ} 0 1 = cc in omega arith)
+
+-- what a `>>=` that gives an item has read first
+pub record Both {A B : Type 0} (x : Read A) (go : A → Reader B) (b : B) (t : List ℕ) : Type 0 where
+  pub item : A
+  pub middle : List ℕ
+  pub first : x ≡ got item middle
+  pub second : go item middle ≡ got b t
+
+pub both : {A B : Type 0} (x : Read A) {go : A → Reader B} {b : B} {t : List ℕ} → next x go ≡ got b t → Both x go b t
+both (fault f) e = never e
+both (got a m) e = record { item = a; middle = m; first = refl; second = e }
+
+-- bytes and numbers at the place `at`, up to the place `to`
+pub bytes-at : (n : ℕ) (s : List ℕ) (at to : ℕ) → at + n ≡ to → to ≤ length s → bytes n (drop at s) ≡ got (take n (drop at s)) (drop to s)
+unfolding bytes
+bytes-at n s at to e h = let l = length-drop at s in rw (le-ltb (length (drop at s)) n (omega arith), ← e, drop-drop n at s)
+
+pub bytes-short : (n : ℕ) (s : List ℕ) → length s < n → bytes n s ≡ fault shortInput
+unfolding bytes
+bytes-short n s h = rw (lt-ltb (length s) n h)
+
+pub number-at : (n : ℕ) (s : List ℕ) (at to : ℕ) → at + n ≡ to → to ≤ length s → number n (drop at s) ≡ got (leAt n s at) (drop to s)
+number-at n s at to e h = rw (bytes-at n s at to e h)
+
+pub number-short : (n : ℕ) (s : List ℕ) → length s < n → number n s ≡ fault shortInput
+number-short n s h = rw (bytes-short n s h)

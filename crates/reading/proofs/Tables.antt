@@ -1,0 +1,151 @@
+-- Lookups in a table that is readable: the entry at an index stands where the walk over those before it ends, and in a table of one width at
+-- its index times the width.
+use mathlib.Core.Path.{_≡_, sym, ap, _∙_}
+use mathlib.Core.List.{List, [], _∷_}
+use Prim.Native.Nat.{ℕ, zero, suc, _+_, _*_, _≤_, _<_}
+use native.Mathlib.Nat.{mul-suc, mul-zero}
+use native.Mathlib.Decide.{decLe}
+use native.Mathlib.Omega.{arith}
+use lib.ListN.{length, drop, length-drop}
+use lib.Seq.{drop-drop}
+use Rattle.reading.specs.Fault.{Fault}
+use Rattle.reading.specs.Numbers.{leAt}
+use Rattle.reading.specs.Reader.{Read, fault, got, Reader, next, give, many, counted}
+use Rattle.reading.specs.Answer.{refused, found, indexed}
+use Rattle.reading.specs.Places.{onTo, Goes, leftOf, Holds, ends, faulty, entry, Steps}
+use Rattle.reading.specs.declared.Table.{Table}
+use Rattle.reading.proofs.Reading.{never, both}
+use Rattle.reading.proofs.Passing.{counted-short, counted-as}
+use Rattle.reading.proofs.Width.{Width}
+
+-- the item at an index, read at `x`
+pub record At {A : Type 0} (r : Reader A) (xs : List A) (k : ℕ) (x : List ℕ) : Type 0 where
+  pub item : A
+  pub behind : List ℕ
+  pub reads : r x ≡ got item behind
+  pub picked : (out : Fault) → indexed out xs k ≡ found item
+
+-- the first of several items, and those behind it
+record Cons {A : Type 0} (r : Reader A) (n : ℕ) (x : List ℕ) (xs : List A) (rest : List ℕ) : Type 0 where
+  first : A
+  others : List A
+  middle : List ℕ
+  reads : r x ≡ got first middle
+  reads-others : many n r middle ≡ got others rest
+  all : xs ≡ first ∷ others
+
+cons : {A : Type 0} (r : Reader A) (n : ℕ) (x : List ℕ) (xs : List A) (rest : List ℕ) → many (suc n) r x ≡ got xs rest → Cons r n x xs rest
+cons r n x xs rest e =
+    let p = both (r x) e in
+    let q = both (many n r (p .middle)) (p .second) in
+    let z : q .middle ≡ rest = cc in
+    record { first = p .item; others = q .item; middle = p .middle; reads = p .first; reads-others = rw z at (q .first); all = cc }
+
+module _ {A : Type 0} (r : Reader A) where
+  -- behind k items that were passed stands the item of index k
+  pub at-walked : (k n : ℕ) (x y : List ℕ) (xs bs : List A) (rest : List ℕ) → k < n → many n r x ≡ got xs rest → many k r x ≡ got bs y → At r xs k y
+  at-walked k zero x y xs bs rest h e g = absurd (omega arith)
+  at-walked zero (suc n) x y xs bs rest h e g =
+      let c = cons r n x xs rest e in
+      let z : x ≡ y = cc in
+      record { item = c .first; behind = c .middle; reads = ap r (sym z) ∙ c .reads; picked = λ out. ap (λ v. indexed out v 0) (c .all) }
+  at-walked (suc k) (suc n) x y xs bs rest h e g =
+      let c = cons r n x xs rest e in
+      let d = cons r k x bs y g in
+      let z : d .middle ≡ c .middle = cc (c .reads, d .reads) in
+      let w = at-walked k n (c .middle) y (c .others) (d .others) rest (omega arith) (c .reads-others) (rw z at (d .reads-others)) in
+      record { item = w .item; behind = w .behind; reads = w .reads; picked = λ out. ap (λ v. indexed out v (suc k)) (c .all) ∙ w .picked out }
+
+  -- in a table of width w the item of index k stands at k times w
+  pub at-width : {w : ℕ} → Width w r → (k n : ℕ) (x : List ℕ) (xs : List A) (rest : List ℕ) → k < n → many n r x ≡ got xs rest → At r xs k (drop (w * k) x)
+  at-width {w} hw k zero x xs rest h e = absurd (omega arith)
+  at-width {w} hw zero (suc n) x xs rest h e =
+      let c = cons r n x xs rest e in
+      record { item = c .first; behind = c .middle; reads = rw (mul-zero w) (c .reads); picked = λ out. ap (λ v. indexed out v 0) (c .all) }
+  at-width {w} hw (suc k) (suc n) x xs rest h e =
+      let c = cons r n x xs rest e in
+      let m = hw .takes x (c .first) (c .middle) (c .reads) .0 in
+      let i = at-width hw k n (c .middle) (c .others) rest (omega arith) (c .reads-others) in
+      let j : w + w * k ≡ w * suc k = omega (arith, mul-suc w k) in
+      let z : drop (w * k) (c .middle) ≡ drop (w * suc k) x = ap (drop (w * k)) m ∙ drop-drop (w * k) w x ∙ ap (λ (i : ℕ). drop i x) j in
+      record { item = i .item; behind = i .behind; reads = rw z at (i .reads); picked = λ out. ap (λ v. indexed out v (suc k)) (c .all) ∙ i .picked out }
+
+  -- an index that is not below the count
+  pub index-out : (k n : ℕ) (x : List ℕ) (xs : List A) (rest : List ℕ) (out : Fault) → n ≤ k → many n r x ≡ got xs rest → indexed out xs k ≡ refused out
+  index-out k zero x xs rest out h e = let z : xs ≡ [] = cc in rw z
+  index-out zero (suc n) x xs rest out h e = absurd (omega arith)
+  index-out (suc k) (suc n) x xs rest out h e =
+      let c = cons r n x xs rest e in
+      ap (λ v. indexed out v (suc k)) (c .all) ∙ index-out k n (c .middle) (c .others) rest out (omega arith) (c .reads-others)
+
+  -- no walk over a part of a readable table stops
+  pub never-stops : (k n : ℕ) (x : List ℕ) (xs : List A) (rest : List ℕ) (f : Fault) → k ≤ n → many n r x ≡ got xs rest → many k r x ≡ fault f → ⊥
+  never-stops zero n x xs rest f h e g = never (sym g)
+  never-stops (suc k) zero x xs rest f h e g = absurd (omega arith)
+  never-stops (suc k) (suc n) x xs rest f h e g =
+      let c = cons r n x xs rest e in
+      never-stops k n (c .middle) (c .others) rest f (omega arith) (c .reads-others) (no-more (c .first) (many k r (c .middle)) (rw (c .reads) at g))
+    where
+      no-more : (a : A) (y : Read (List A)) → next y (λ bs. give (a ∷ bs)) ≡ fault f → y ≡ fault f
+      no-more a (fault d) q = cc
+      no-more a (got bs m) q = never (sym q)
+
+  -- the item that the code reads there is the one of the index
+  pub at-picked : {xs : List A} {k : ℕ} {x : List ℕ} → At r xs k x → (a : A) (t : List ℕ) → r x ≡ got a t → (out : Fault) → indexed out xs k ≡ found a
+  at-picked h a t e out = let z : h .item ≡ a = cc (h .reads, e) in h .picked out ∙ ap found z
+
+  pub at-reads : {xs : List A} {k : ℕ} {x : List ℕ} → At r xs k x → (f : Fault) → r x ≡ fault f → ⊥
+  at-reads h f e = never (sym e ∙ h .reads)
+
+  -- the same over the places of a section
+  module _ (s : List ℕ) (t : Table) (xs : List A) (h : Holds r s t xs) where
+    pub holds-walked : (k m : ℕ) → k < t .count → Goes (many k r) s (t .at) (onTo m) → At r xs k (drop m s)
+    holds-walked k m l g = at-walked k (t .count) (drop (t .at) s) (drop m s) xs (g .1 .0) (h .rest) l (h .reads) (g .1 .1)
+
+    pub holds-width : {w : ℕ} → Width w r → (k : ℕ) → k < t .count → At r xs k (drop (t .at + w * k) s)
+    holds-width {w} hw k l = rw drop-drop at (at-width hw k (t .count) (drop (t .at) s) xs (h .rest) l (h .reads))
+
+    -- and lies in the section
+    pub holds-fits : {w : ℕ} → Width w r → 0 < w → (k : ℕ) → k < t .count → t .at + w * k + w ≤ length s
+    holds-fits {w} hw p k l =
+        let a = holds-width hw k l in
+        omega (arith, hw .takes (drop (t .at + w * k) s) (a .item) (a .behind) (a .reads) .1, length-drop (t .at + w * k) s)
+
+    pub holds-stops : (k : ℕ) (f : Fault) → k ≤ t .count → many k r (drop (t .at) s) ≡ fault f → ⊥
+    holds-stops k f l g = never-stops k (t .count) (drop (t .at) s) xs (h .rest) f l (h .reads) g
+
+    pub holds-out : (k : ℕ) (out : Fault) → t .count ≤ k → indexed out xs k ≡ refused out
+    holds-out k out l = index-out k (t .count) (drop (t .at) s) xs (h .rest) out l (h .reads)
+
+  -- a table of n entries has n of them
+  pub many-length : (n : ℕ) (x : List ℕ) (xs : List A) (rest : List ℕ) → many n r x ≡ got xs rest → length xs ≡ n
+  many-length zero x xs rest e = let z : xs ≡ [] = cc in rw z
+  many-length (suc n) x xs rest e =
+      let c = cons r n x xs rest e in
+      ap length (c .all) ∙ ap suc (many-length n (c .middle) (c .others) rest (c .reads-others))
+
+  -- a table with its count in front that is readable: the count is there, and the entries stand behind it
+  module _ (s : List ℕ) (at m : ℕ) (g : Goes (counted r) s at (onTo m)) where
+    pub counted-room : at ≤ length s → at + 2 ≤ length s
+    counted-room h = go (decLe (at + 2) (length s))
+      where
+        go : Dec (at + 2 ≤ length s) → at + 2 ≤ length s
+        go (yes i) = i
+        go (no i) = never (sym (counted-short r s at (omega arith)) ∙ g .1 .1)
+
+    pub counted-holds : (t : Table) → at + 2 ≤ length s → t .at ≡ at + 2 → t .count ≡ leAt 2 s at → Holds r s t (g .1 .0)
+    counted-holds t h p n =
+        record { within = omega arith; rest = drop m s; reads = ap (λ (i : ℕ). many (t .count) r (drop i s)) p ∙ sym (counted-as r s at (t .count) h n) ∙ g .1 .1 }
+
+  -- a caller's walk over a readable table: a step meets no fault, and gives the first entry and a table of the others
+  module _ (s : List ℕ) (t : Table) (xs : List A) (h : Holds r s t xs) where
+    pub steps-never : (f : Fault) → Steps r s t (faulty f) → ⊥
+    steps-never f g = never (sym g ∙ h .reads)
+
+    pub steps-first : (a : A) (u : Table) → Steps r s t (entry a u) → (ys : List A) × (xs ≡ a ∷ ys) × Holds r s u ys
+    steps-first a u g =
+        let b = both (leftOf r s u) (sym (g .2) ∙ h .reads) in
+        (b .item, cc (b .second), record { within = g .0; rest = b .middle; reads = b .first })
+
+    pub steps-none : Steps r s t ends → xs ≡ []
+    steps-none e = let p : got xs (h .rest) ≡ got [] (drop (t .at) s) = sym (h .reads) ∙ ap (λ (n : ℕ). many n r (drop (t .at) s)) e in cc

@@ -1,0 +1,5 @@
+pub mod Fault
+pub mod Numbers
+pub mod Reader
+pub mod Answer
+pub mod Places
