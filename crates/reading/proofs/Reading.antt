@@ -1,10 +1,11 @@
 -- The laws of readers: what a `do` block that reads has read, and numbers at a place of a section.
-use mathlib.Core.Path.{_≡_, refl}
-use mathlib.Core.List.{List}
+use mathlib.Core.Path.{_≡_, refl, sym, ap, _∙_}
+use mathlib.Core.List.{List, _++_}
 use Prim.Native.Nat.{ℕ, _+_, _≤_, _<_}
 use native.Mathlib.Omega.{arith}
-use lib.ListN.{length, take, drop, length-drop}
-use lib.Seq.{drop-drop}
+use native.Mathlib.Decide.{decLe}
+use lib.ListN.{length, take, drop, length-drop, length-append}
+use lib.Seq.{drop-drop, take-at, drop-at, length-take-le}
 use borrow.Author.Tests.{lt-ltb, le-ltb}
 use Rattle.reading.specs.Fault.{Fault, shortInput}
 use Rattle.reading.specs.Numbers.{leAt}
@@ -33,6 +34,21 @@ bytes-at n s at to e h = let l = length-drop at s in rw (le-ltb (length (drop at
 pub bytes-short : (n : ℕ) (s : List ℕ) → length s < n → bytes n s ≡ fault shortInput
 unfolding bytes
 bytes-short n s h = rw (lt-ltb (length s) n h)
+
+-- as many bytes as are asked for
+pub bytes-all : (n : ℕ) (b s : List ℕ) → length b ≡ n → bytes n (b ++ s) ≡ got b s
+unfolding bytes
+bytes-all n b s h = rw (le-ltb (length (b ++ s)) n (omega (arith, length-append b s)), take-at b s n h, drop-at b s n h)
+
+pub bytes-length : (n : ℕ) (s b t : List ℕ) → bytes n s ≡ got b t → length b ≡ n
+bytes-length n s b t e = go (decLe n (length s))
+  where
+    go : Dec (n ≤ length s) → length b ≡ n
+    go (yes i) =
+        let x = bytes-at n s 0 n (omega arith) i in
+        let y : take n s ≡ b = cc in
+        sym (ap length y) ∙ length-take-le n s i
+    go (no i) = never (sym (bytes-short n s (omega arith)) ∙ e)
 
 pub number-at : (n : ℕ) (s : List ℕ) (at to : ℕ) → at + n ≡ to → to ≤ length s → number n (drop at s) ≡ got (leAt n s at) (drop to s)
 number-at n s at to e h = rw (bytes-at n s at to e h)

@@ -1,0 +1,30 @@
+-- The claims hold.
+use Rattle.format.specs.Claims.{AllClaims}
+use Rattle.format.proofs.Refusals.{refusals}
+use Rattle.format.proofs.Order.{order}
+use Rattle.format.proofs.PlacesHold.{places-hold}
+use Rattle.format.proofs.OwnRecord.{own-record}
+use Rattle.format.proofs.RunSide.{premises, run-side-independence, run-side-of-records}
+use Rattle.format.proofs.UnknownTables.{unknown-tables, unknown-tables-of-records}
+use Rattle.format.proofs.Examples.{first-half-speaks, types-premise-needed, empty-code-place-needed, content-hash-needed, second-half-speaks, cases, wrong-turns}
+
+pub claims-hold : AllClaims
+claims-hold hash =
+    record {
+      refusals = refusals hash;
+      order = order;
+      places-hold = places-hold;
+      own-record = own-record hash;
+      premises = premises;
+      run-side-independence = run-side-independence hash;
+      run-side-of-records = run-side-of-records hash;
+      unknown-tables = unknown-tables hash;
+      unknown-tables-of-records = unknown-tables-of-records hash;
+      first-half-speaks = first-half-speaks hash;
+      types-premise-needed = types-premise-needed hash;
+      empty-code-place-needed = empty-code-place-needed hash;
+      content-hash-needed = content-hash-needed;
+      second-half-speaks = second-half-speaks hash;
+      cases = cases hash;
+      wrong-turns = wrong-turns hash;
+    }

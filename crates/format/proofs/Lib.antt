@@ -1,0 +1,13 @@
+pub mod Answers
+pub mod Places
+pub mod Readers
+pub mod Keeping
+pub mod PlacesHold
+pub mod Loads
+pub mod OwnRecord
+pub mod RunSide
+pub mod Order
+pub mod UnknownTables
+pub mod Refusals
+pub mod Examples
+pub mod Claims

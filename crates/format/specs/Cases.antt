@@ -1,0 +1,64 @@
+-- The starred cases of document 01, jointly, of the definitions; and its "Wrong turns".
+use Prim.Native.Nat.{ℕ}
+use mathlib.Core.Path.{_≡_}
+use mathlib.Core.Bool.{true, false}
+use mathlib.Core.List.{List, [], _∷_}
+use mathlib.Core.Option.{some}
+use lib.IntN.{ℤ, pos}
+use Rattle.utf8.specs.Utf8.{utf8}
+use Rattle.reading.specs.Answer.{Got, refused, found, _>>=_, itemOf}
+use Rattle.format.specs.Faults.{invalidArrayStride, invalidConstantIndex, invalidConstantType, sizeOverflow, noLine}
+use Rattle.format.specs.Parts.{byBytes}
+use Rattle.format.specs.Types.{Array, array, naturalStride, typeTables}
+use Rattle.format.specs.Constants.{constants, signed}
+use Rattle.format.specs.Code.{Function}
+use Rattle.format.specs.Debug.{noTables}
+use Rattle.format.specs.Lines.{lineFor}
+use Rattle.format.specs.Load.{debugOf}
+use Rattle.format.specs.Record.{readFrom}
+use Rattle.format.specs.Lookups.{byteSize, numberOf, runAnswers}
+use Rattle.format.specs.Examples.{mill, millWith, lineAt, lastLine}
+
+-- an array of type 0 with so many elements, at stride 8
+abbrev pub slots : ℕ → Array
+slots elements = record { kind = 0; elements = elements; extra = 0; stride = 8 }
+
+-- the entry of a string array of extra 10 with a stride below 256
+abbrev pub stringArray : ℕ → List ℕ
+stringArray stride = 6 ∷ 0 ∷ 3 ∷ 0 ∷ 0 ∷ 0 ∷ 10 ∷ 0 ∷ stride ∷ 0 ∷ 0 ∷ 0 ∷ []
+
+-- constants 01 00 00 01 02 00 0E 01, with the size as said
+abbrev pub pool : ℕ → List ℕ
+pool size = 1 ∷ 0 ∷ 0 ∷ 1 ∷ size ∷ 0 ∷ 0x0E ∷ 0x01 ∷ []
+
+abbrev pub i32In : List ℕ → ℕ → Got ℤ
+i32In section i = itemOf (constants byBytes section) >>= numberOf 0 4 i >>= λ n. found (signed 2147483648 n)
+
+pub record Cases (hash : List ℕ → List ℕ) : Type 0 where
+  pub strides : (naturalStride 6 10 ≡ 16) × (naturalStride 7 10 ≡ 26) × (naturalStride 0 10 ≡ 8) × (naturalStride 7 65535 ≡ 131076)
+  pub stride-15 : itemOf (array (stringArray 15)) ≡ refused (invalidArrayStride 6 15)
+  pub stride-17 : itemOf (array (stringArray 17)) ≡ found (record { kind = 6; elements = 3; extra = 10; stride = 17 })
+  pub index-0 : i32In (pool 2) 0 ≡ found (pos 270)
+  pub index-1 : i32In (pool 2) 1 ≡ refused (invalidConstantIndex 1)
+  pub size-9 : itemOf (constants byBytes (pool 9)) ≡ refused (invalidConstantType 0)
+  pub no-user-fbs : itemOf (typeTables (0 ∷ 0 ∷ 0 ∷ 0 ∷ 7 ∷ [])) ≡ found (record { fbTypes = []; arrays = []; userFbs = [] })
+  pub largest : byteSize (slots 536870911) ≡ found 4294967288
+  pub too-large : byteSize (slots 536870912) ≡ refused sizeOverflow
+  pub line-1 : lineAt hash mill 0 2 ≡ found (record { function = 0; offset = 0; file = 0; line = 1; column = 1 })
+  pub column-9 : lineAt hash mill 0 3 ≡ found lastLine
+  pub function-1 : (offset : ℕ) → lineAt hash mill 1 offset ≡ refused noLine
+  pub texts : (utf8 (0xED ∷ 0xA0 ∷ 0x80 ∷ []) ≡ false) × (utf8 (0xC0 ∷ 0x80 ∷ []) ≡ false) × (utf8 (0xEF ∷ 0xBF ∷ 0xBF ∷ []) ≡ true)
+  pub empty-debug : debugOf (0 ∷ 0 ∷ []) ≡ some noTables
+  pub empty-line : (function offset : ℕ) → lineFor function offset (noTables {T = List ℕ} .lines) ≡ refused noLine
+
+-- what the four wrong turns would answer otherwise
+pub record WrongTurns (hash : List ℕ → List ℕ) : Type 0 where
+  -- M with the debug flag clear still has its lines
+  pub flag-not-asked : lineAt hash (millWith 4 0 32) 0 3 ≡ found lastLine
+  -- M whose row says that its lines have 7 bytes reads as M does
+  pub row-size-ignored : lineAt hash (millWith 6 0 7) 0 3 ≡ found lastLine
+  -- M with 7 as the stored id of its function: the function is found at 0
+  pub stored-id-ignored : (readFrom hash (millWith 6 7 32) >>= λ r. runAnswers (millWith 6 7 32) r .function 0)
+      ≡ found (record { id = 7; offset = 0; size = 5; maxStackDepth = 8; locals = 2; parameters = 0 })
+  -- of M's two lines at offset 3 the last is answered
+  pub last-of-equals : lineAt hash mill 0 3 ≡ found lastLine

@@ -1,0 +1,34 @@
+-- All that is claimed of the definitions, for any hash.
+use Prim.Native.Nat.{ℕ}
+use mathlib.Core.Path.{_≡_}
+use mathlib.Core.List.{List}
+use Rattle.reading.specs.Answer.{found, _>>=_}
+use Rattle.format.specs.Record.{Container, readFrom}
+use Rattle.format.specs.OwnRecord.{PlacesHold, OwnRecord}
+use Rattle.format.specs.RunSide.{runRecordOf, Premises, RunSideIndependence, RunSideOfRecords}
+use Rattle.format.specs.UnknownTables.{UnknownTables, UnknownTablesOfRecords}
+use Rattle.format.specs.Order.{Order}
+use Rattle.format.specs.Refusals.{Refusals}
+use Rattle.format.specs.Examples.{FirstHalfSpeaks, TypesPremiseNeeded, EmptyCodePlaceNeeded, ContentHashNeeded, SecondHalfSpeaks}
+use Rattle.format.specs.Cases.{Cases, WrongTurns}
+
+pub record Claims (hash : List ℕ → List ℕ) : Type 0 where
+  pub refusals : Refusals hash
+  pub order : Order
+  pub places-hold : (f : List ℕ) (r : Container) → PlacesHold f r
+  pub own-record : OwnRecord hash
+  pub premises : Premises
+  pub run-side-independence : RunSideIndependence hash
+  pub run-side-of-records : RunSideOfRecords hash
+  pub unknown-tables : UnknownTables hash
+  pub unknown-tables-of-records : UnknownTablesOfRecords hash
+  pub first-half-speaks : FirstHalfSpeaks hash
+  pub types-premise-needed : TypesPremiseNeeded hash
+  pub empty-code-place-needed : EmptyCodePlaceNeeded hash
+  pub content-hash-needed : ContentHashNeeded
+  pub second-half-speaks : SecondHalfSpeaks hash
+  pub cases : Cases hash
+  pub wrong-turns : WrongTurns hash
+
+abbrev pub AllClaims : Type 0
+AllClaims = (hash : List ℕ → List ℕ) → Claims hash

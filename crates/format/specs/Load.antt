@@ -1,0 +1,80 @@
+-- Loading a file (document 01, "Reading, in this order"). `hash` stands for BLAKE3.
+use Prim.Native.Nat.{ℕ}
+use mathlib.Core.Bool.{Bool, _&&_, cond}
+use mathlib.Core.List.{List}
+use mathlib.Core.Option.{Option, none, some}
+use lib.Dec.{leb, ltb}
+use lib.ListN.{length}
+use Rattle.reading.specs.Reader.{Read, fault, got, Reader}
+use Rattle.reading.specs.Answer.{Got, found, _>>=_, _>>_, need, itemOf}
+use Rattle.format.specs.Faults.{tooLong}
+use Rattle.format.specs.Parts.{limit, Place, cut, isInside, byBytes}
+use Rattle.format.specs.Header.{Header, headerOf, typesFlag}
+use Rattle.format.specs.Integrity.{sectionIn, contentFits, debugHashFits}
+use Rattle.format.specs.Tasks.{TaskTable, taskTable}
+use Rattle.format.specs.Types.{TypeTables, typeTables}
+use Rattle.format.specs.Constants.{Constant, constants}
+use Rattle.format.specs.Code.{Code, codeOf}
+use Rattle.format.specs.Debug.{Tables, debugTables}
+
+-- what a loaded file holds; strings, names and paths by their bytes
+pub record Loaded : Type 0 where
+  pub header : Header
+  pub tasks : TaskTable
+  pub types : Option TypeTables
+  pub constants : List (Constant (List ℕ))
+  pub code : Code
+  pub debug : Option (Tables (List ℕ))
+
+-- a section handed on as its part of the file: 4 before it is read, then its own refusal
+unfoldable pub readIn : {A : Type 0} → List ℕ → Place → Reader A → Got A
+readIn f p r = do
+  s ← sectionIn f p
+  itemOf (r s)
+
+-- Types: read only if their flag is set, their size above 0 and their place inside; else there are none, and no refusal
+
+unfoldable pub hasTypes : List ℕ → Header → Bool
+hasTypes f h = typesFlag (h .flags) && ltb 0 (h .directory .types .size) && isInside f (h .directory .types)
+
+unfoldable pub typesFound : List ℕ → Header → Got (Option TypeTables)
+typesFound f h =
+    let read : Got (Option TypeTables) = (itemOf (typeTables (cut f (h .directory .types))) >>= λ t. found (some t)) in
+    cond (hasTypes f h) read (found none)
+
+-- Debug: four tests, and none of the flag; where one fails the container loads with no debug
+
+abbrev pub debugSized : Header → Bool
+debugSized h = ltb 0 (h .directory .debug .size)
+
+abbrev pub debugInside : List ℕ → Header → Bool
+debugInside f h = isInside f (h .directory .debug)
+
+abbrev pub debugHashed : (List ℕ → List ℕ) → List ℕ → Header → Bool
+debugHashed hash f h = debugHashFits hash (h .debugHash) (cut f (h .directory .debug))
+
+-- what was read, or none where the section is unreadable
+abbrev pub readable : {A : Type 0} → Read A → Option A
+readable (fault f) = none
+readable (got a rest) = some a
+
+unfoldable pub debugOf : List ℕ → Option (Tables (List ℕ))
+debugOf section = readable (debugTables byBytes section)
+
+unfoldable pub debugFound : (List ℕ → List ℕ) → List ℕ → Header → Option (Tables (List ℕ))
+debugFound hash f h =
+    let read = debugOf (cut f (h .directory .debug)) in
+    cond (debugSized h && debugInside f h && debugHashed hash f h) read none
+
+-- The file: length, header, content hash, tasks, types, constants, code, debug; the first fault met decides
+
+unfoldable pub load : (List ℕ → List ℕ) → List ℕ → Got Loaded
+load hash f = do
+  need (leb (length f) limit) tooLong
+  h ← headerOf f
+  contentFits hash f h
+  tasks ← readIn f (h .directory .tasks) taskTable
+  types ← typesFound f h
+  constants ← readIn f (h .directory .constants) (constants byBytes)
+  code ← readIn f (h .directory .code) (codeOf (h .runtime .functions))
+  found (record { header = h; tasks = tasks; types = types; constants = constants; code = code; debug = debugFound hash f h })

@@ -1,0 +1,66 @@
+-- UTF-8 by Unicode's table of well-formed byte sequences (The Unicode Standard, table 3-7); document 01, "Leaves".
+use mathlib.Core.Bool.{Bool, true, false, _&&_, cond}
+use mathlib.Core.List.{List, [], _∷_}
+use Prim.Native.Nat.{ℕ, zero, suc}
+use lib.Dec.{leb, eqb}
+use lib.ListN.{length}
+
+-- the bytes from `low` to `high`
+pub record Range : Type 0 where
+  pub low : ℕ
+  pub high : ℕ
+
+abbrev pub _to_ : ℕ → ℕ → Range
+_to_ a b = record { low = a; high = b }
+
+infix 70 _to_
+abbrev pub within : Range → ℕ → Bool
+within r b = leb (r .low) b && leb b (r .high)
+
+-- the table: for each row the range of its first byte, then that of its second, and so on
+abbrev pub wellFormed : List (List Range)
+wellFormed =
+    (0x00 to 0x7F ∷ []) ∷
+    (0xC2 to 0xDF ∷ 0x80 to 0xBF ∷ []) ∷
+    (0xE0 to 0xE0 ∷ 0xA0 to 0xBF ∷ 0x80 to 0xBF ∷ []) ∷
+    (0xE1 to 0xEC ∷ 0x80 to 0xBF ∷ 0x80 to 0xBF ∷ []) ∷
+    (0xED to 0xED ∷ 0x80 to 0x9F ∷ 0x80 to 0xBF ∷ []) ∷
+    (0xEE to 0xEF ∷ 0x80 to 0xBF ∷ 0x80 to 0xBF ∷ []) ∷
+    (0xF0 to 0xF0 ∷ 0x90 to 0xBF ∷ 0x80 to 0xBF ∷ 0x80 to 0xBF ∷ []) ∷
+    (0xF1 to 0xF3 ∷ 0x80 to 0xBF ∷ 0x80 to 0xBF ∷ 0x80 to 0xBF ∷ []) ∷
+    (0xF4 to 0xF4 ∷ 0x80 to 0x8F ∷ 0x80 to 0xBF ∷ 0x80 to 0xBF ∷ []) ∷
+    []
+
+-- the text starts with a byte in each range of the row, in turn
+abbrev pub starts : List Range → List ℕ → Bool
+starts [] s = true
+starts (r ∷ row) [] = false
+starts (r ∷ row) (b ∷ s) = within r b && starts row s
+
+-- the length of the first row of the table with which the text starts, and 0 where there is none
+abbrev pub firstOf : List (List Range) → List ℕ → ℕ
+firstOf [] s = 0
+firstOf (row ∷ rows) s = cond (starts row s) (length row) (firstOf rows s)
+
+-- the length of the well-formed sequence that the text starts with, and 0 where there is none
+unfoldable pub sequenceAt : List ℕ → ℕ
+sequenceAt s = firstOf wellFormed s
+
+-- no sequence: the length ends here; a sequence: its first byte counts, and then what `f` says of the rest
+abbrev pub onward : ℕ → (ℕ → ℕ) → ℕ
+onward zero f = 0
+onward (suc k) f = suc (f k)
+
+-- `goodLength`, where `k` more bytes belong to a sequence that was already found whole
+unfoldable pub goodAfter : ℕ → List ℕ → ℕ
+goodAfter k [] = 0
+goodAfter (suc k) (b ∷ s) = suc (goodAfter k s)
+goodAfter zero (b ∷ s) = onward (sequenceAt (b ∷ s)) (λ k. goodAfter k s)
+
+-- the length of the longest start of the text that consists of whole well-formed sequences
+unfoldable pub goodLength : List ℕ → ℕ
+goodLength s = goodAfter 0 s
+
+-- the text is well-formed UTF-8: that length is its own
+unfoldable pub utf8 : List ℕ → Bool
+utf8 s = eqb (goodLength s) (length s)

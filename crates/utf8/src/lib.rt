@@ -1,0 +1,103 @@
+// UTF-8, by Unicode's table of well-formed byte sequences (The Unicode Standard, table 3-7).
+ghost use mathlib.Core.Bool.{cond};
+ghost use mathlib.Core.List.{[], _∷_};
+ghost use mathlib.Core.Path.{_≡_};
+ghost use Prim.Native.Nat.{_+_, _<_};
+ghost use lib.ListN.{length, drop};
+ghost use Rattle.utf8.specs.Laws.{Laws};
+ghost use Rattle.utf8.specs.Utf8.{_to_, starts, sequenceAt, goodLength, utf8};
+
+// Whether a byte from `low` to `high` stands at `at`.
+fn has(s: &[u8], at: usize, low: u8, high: u8) -> bool
+    ensures { λ r. ⌜ r ≡ starts (low to high ∷ []) (drop at (now (s .entry))) ⌝ }
+{
+    if s.len() <= at {
+        return false;
+    }
+    let b = s[at];
+    if b < low {
+        return false;
+    }
+    b <= high
+}
+
+// The length of a sequence of two bytes whose first, already known, stands at `at`; 0 where the second is not there.
+fn two(s: &[u8], at: usize) -> usize
+    requires { ⌜ at < length (now s) ⌝ }
+    ensures { λ r. ⌜ r ≡ cond (starts (0x80 to 0xBF ∷ []) (drop (at + 1) (now (s .entry)))) 2 0 ⌝ }
+{
+    if has(s, at + 1, 0x80, 0xBF) { 2 } else { 0 }
+}
+
+// The same of three bytes, of which the second is from `low` to `high`.
+fn three(s: &[u8], at: usize, low: u8, high: u8) -> usize
+    requires { ⌜ at < length (now s) ⌝ }
+    ensures { λ r. ⌜ r ≡ cond (starts (low to high ∷ 0x80 to 0xBF ∷ []) (drop (at + 1) (now (s .entry)))) 3 0 ⌝ }
+{
+    if has(s, at + 1, low, high) {
+        return if has(s, at + 2, 0x80, 0xBF) { 3 } else { 0 };
+    }
+    0
+}
+
+// The same of four bytes.
+fn four(s: &[u8], at: usize, low: u8, high: u8) -> usize
+    requires { ⌜ at < length (now s) ⌝ }
+    ensures { λ r. ⌜ r ≡ cond (starts (low to high ∷ 0x80 to 0xBF ∷ 0x80 to 0xBF ∷ []) (drop (at + 1) (now (s .entry)))) 4 0 ⌝ }
+{
+    if has(s, at + 1, low, high) {
+        if has(s, at + 2, 0x80, 0xBF) {
+            return if has(s, at + 3, 0x80, 0xBF) { 4 } else { 0 };
+        }
+    }
+    0
+}
+
+// The length of the well-formed sequence at `at`, and 0 where there is none.
+fn sequence(s: &[u8], at: usize) -> usize
+    ensures { λ r. ⌜ r ≡ sequenceAt (drop at (now (s .entry))) ⌝ }
+{
+    if s.len() <= at {
+        return 0;
+    }
+    let lead = s[at];
+    match lead {
+        0x00..=0x7F => 1,
+        0xC2..=0xDF => two(s, at),
+        0xE0 => three(s, at, 0xA0, 0xBF),
+        0xE1..=0xEC => three(s, at, 0x80, 0xBF),
+        0xED => three(s, at, 0x80, 0x9F),
+        0xEE..=0xEF => three(s, at, 0x80, 0xBF),
+        0xF0 => four(s, at, 0x90, 0xBF),
+        0xF1..=0xF3 => four(s, at, 0x80, 0xBF),
+        0xF4 => four(s, at, 0x80, 0x8F),
+        _ => 0,
+    }
+}
+
+// The length of the longest start of `s` that consists of whole well-formed sequences.
+pub fn good_length(s: &[u8]) -> usize
+    ensures { λ r. ⌜ r ≡ goodLength (now (s .entry)) ⌝ }
+{
+    let mut i = 0;
+    loop {
+        let n = sequence(s, i);
+        if n == 0 {
+            break;
+        }
+        i += n;
+    }
+    i
+}
+
+// Whether `s` is well-formed UTF-8.
+pub fn is_utf8(s: &[u8]) -> bool
+    ensures { λ r. ⌜ r ≡ utf8 (now (s .entry)) ⌝ }
+{
+    good_length(s) == s.len()
+}
+
+// The claims of `specs/Laws.antt` hold. There is no code: the contract makes the check prove them.
+pub fn laws_hold()
+    ensures { λ _. ⌜ Laws ⌝ }
+{}
