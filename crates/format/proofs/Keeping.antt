@@ -2,19 +2,19 @@
 use mathlib.Core.Path.{_≡_, refl, sym, ap, _∙_}
 use mathlib.Core.Bool.{Bool, true, false, cond}
 use mathlib.Core.List.{List, [], _∷_, _++_, map}
-use Prim.Native.Nat.{ℕ, zero, suc, _+_, _-_, _≤_, _<_}
+use Prim.Native.Nat.{ℕ, zero, suc, _+_, _-_, _≤_}
 use native.Mathlib.Decide.{decLe}
 use native.Mathlib.Omega.{arith}
 use lib.Dec.{leb}
-use lib.ListN.{length, take, drop, replicate, length-append, length-drop, length-take}
+use lib.ListN.{length, take, drop, replicate, length-append, length-drop}
 use lib.Seq.{drop-drop, drop-at}
-use Rattle.utf8.specs.Utf8.{goodLength, utf8}
-use Rattle.reading.specs.Fault.{Fault, badText}
+use Rattle.utf8.specs.Utf8.{utf8}
+use Rattle.reading.specs.Fault.{Fault}
 use Rattle.reading.specs.Reader.{Read, fault, got, Reader, next, _>>=_, _>>_, give, check, left, bytes, number, many, counted}
 use Rattle.reading.proofs.Reading.{bytes-at, bytes-short}
 use Rattle.reading.proofs.Local.{Taken, Local, local-check, local-bytes, local-number, local-counted}
 use Rattle.format.specs.Parts.{Keep}
-use Rattle.format.specs.Constants.{string, Constant, onKept, onConstant, keptOf, isNumber, sizeFits, constant, constants}
+use Rattle.format.specs.Constants.{string, onKept, onConstant, keptOf, isNumber, sizeFits, constant, constants}
 use Rattle.format.specs.Constants as kept
 use Rattle.format.specs.Faults.{invalidConstantType}
 use Rattle.format.specs.Debug.{text, name, path, line, onVariable, variable, onFunctionName, functionName, stringLayout, onSourceFile, sourceFile, Enumeration, enumeration}

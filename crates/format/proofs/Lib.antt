@@ -1,3 +1,4 @@
+pub mod Examples
 pub mod Answers
 pub mod Places
 pub mod Readers
@@ -9,5 +10,4 @@ pub mod RunSide
 pub mod Order
 pub mod UnknownTables
 pub mod Refusals
-pub mod Examples
 pub mod Claims

@@ -9,7 +9,7 @@ use lib.ListN.{length}
 use Rattle.reading.specs.Reader.{Read, fault, got, Reader}
 use Rattle.reading.specs.Answer.{found, present, itemOf}
 use Rattle.format.specs.Faults.{noArray, noDebug}
-use Rattle.format.specs.Parts.{limit, Place, isInside, cut, byBytes}
+use Rattle.format.specs.Parts.{limit, Place, cut, byBytes}
 use Rattle.format.specs.Header.{Header}
 use Rattle.format.specs.Types.{TypeTables, typeTables}
 use Rattle.format.specs.Debug.{Tables, debugTables}

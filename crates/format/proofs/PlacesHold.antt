@@ -6,7 +6,6 @@ use mathlib.Core.Option.{Option, none, some}
 use Prim.Native.Nat.{ℕ, zero, suc, _+_, _-_, _≤_}
 use native.Mathlib.Omega.{arith}
 use lib.Dec.{leb}
-use lib.IntN.{ℤ}
 use lib.ListN.{length, take, drop, length-drop}
 use lib.Seq.{drop-drop}
 use borrow.Author.Tests.{leb-true}
@@ -27,12 +26,12 @@ use Rattle.format.specs.Lines.{lineFor}
 use Rattle.format.specs.Integrity.{sectionIn}
 use Rattle.format.specs.Load.{readIn}
 use Rattle.format.specs.Record.{DebugCounts, Container}
-use Rattle.format.specs.Lookups.{readAt, orNoDebug, debugBy, debugIn, constantsIn, codeIn, constantOf, numberOf, stringOf, charWidthOf, functionOf, functionBytesOf, enumerationOf, enumerationValueOf}
+use Rattle.format.specs.Lookups.{readAt, orNoDebug, debugBy, debugIn, constantsIn, codeIn, constantOf, numberOf, stringOf, charWidthOf, functionOf, functionBytesOf}
 use Rattle.format.specs.Lookups.{tasksIn, typesIn, taskOf, programOf, fbTypeOf, fieldOf, arrayOf, arraySizeOf, userFbOf}
 use Rattle.format.specs.Lookups.{EnumerationHead, runAnswersOf, debugAnswersOf, runByBytes, debugByBytes}
 use Rattle.format.specs.OwnRecord.{PlacesHold}
 use Rattle.format.proofs.Answers.{never, same-found, assoc, renamed}
-use Rattle.format.proofs.Places.{length-cut, read-is}
+use Rattle.format.proofs.Places.{length-cut}
 use Rattle.format.proofs.Readers.{local-function}
 use Rattle.format.proofs.Keeping.{LeftOf, left-all, left-taken, Alike, stops, gives, Same, onEnumeration, onTables, same-constants, same-debug}
 
@@ -134,8 +133,8 @@ module _ {T U : Type 0} (h : U → T) where
     string-on =
         renamed (map (onConstant h)) (stringOf i) (λ cs. stringOf i cs >>= λ t. found (h t))
         (λ cs.
-            constant-then asString (λ c. asString c >>= λ t. found (h t)) (λ c. string-kept (c .kind) (c .kept)) i cs
-            ∙ sym (assoc (constantOf i cs) asString (λ t. found (h t))))
+        constant-then asString (λ c. asString c >>= λ t. found (h t)) (λ c. string-kept (c .kind) (c .kept)) i cs
+        ∙ sym (assoc (constantOf i cs) asString (λ t. found (h t))))
         x
         ∙ sym (assoc x (stringOf i) (λ t. found (h t)))
 
@@ -164,9 +163,9 @@ module _ {T U : Type 0} (h : U → T) (x : Got (Tables U)) where
   enumeration-then m g k e i =
       renamed (onTables h) (λ t. indexed noEntry (t .enumerations) i >>= g) (λ t. (indexed noEntry (t .enumerations) i >>= k) >>= λ y. found (m y))
       (λ t.
-          ap (λ y. y >>= g) (indexed-map (onEnumeration h) noEntry (t .enumerations) i)
-          ∙ renamed (onEnumeration h) g (λ e. k e >>= λ y. found (m y)) e (indexed noEntry (t .enumerations) i)
-          ∙ sym (assoc (indexed noEntry (t .enumerations) i) k (λ y. found (m y))))
+      ap (λ y. y >>= g) (indexed-map (onEnumeration h) noEntry (t .enumerations) i)
+      ∙ renamed (onEnumeration h) g (λ e. k e >>= λ y. found (m y)) e (indexed noEntry (t .enumerations) i)
+      ∙ sym (assoc (indexed noEntry (t .enumerations) i) k (λ y. found (m y))))
       x
       ∙ sym (assoc x (λ t. indexed noEntry (t .enumerations) i >>= k) (λ y. found (m y)))
 

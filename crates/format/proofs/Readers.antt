@@ -6,9 +6,9 @@ use Prim.Native.Nat.{ℕ, _-_}
 use lib.ListN.{length}
 use Rattle.utf8.specs.Utf8.{goodLength, utf8}
 use Rattle.reading.specs.Fault.{Fault, badText}
-use Rattle.reading.specs.Reader.{got, Reader, check, bytes}
+use Rattle.reading.specs.Reader.{got, check, bytes}
 use Rattle.reading.proofs.Reading.{never, both}
-use Rattle.reading.proofs.Local.{Taken, Local, local-give, local-bind, local-bytes, local-number, local-counted}
+use Rattle.reading.proofs.Local.{Local, local-give, local-bind, local-bytes, local-number, local-counted}
 use Rattle.format.specs.Parts.{byBytes}
 use Rattle.format.specs.Code.{function}
 use Rattle.format.specs.Debug.{text, name, path, line, variable, functionName, stringLayout, sourceFile, enumeration, Row, tagOf, sizeOf, kindOf, tableOf}

@@ -2,25 +2,25 @@
 use Prim.Native.Nat.{ℕ, zero, suc, _+_, _*_}
 use mathlib.Core.Path.{_≡_, refl}
 use mathlib.Core.Bool.{Bool, true, false, cond}
-use mathlib.Core.List.{List, [], _∷_, _++_}
+use mathlib.Core.List.{List, [], _∷_}
 use mathlib.Core.Option.{Option, none, some}
 use lib.Dec.{leb, ltb, eqb}
 use lib.ListN.{length, take, drop}
 use borrow.Author.Tests.{leb-false}
 use Rattle.reading.specs.Fault.{Fault}
-use Rattle.reading.specs.Numbers.{le, leAt}
-use Rattle.reading.specs.Reader.{Read, fault, got, Reader, next, _>>=_, give, check, left, bytes, number, many, counted, countedOrNone, allLeft}
+use Rattle.reading.specs.Numbers.{leAt}
+use Rattle.reading.specs.Reader.{Read, fault, got, Reader, next, _>>=_, give, check, bytes, number, many, counted, countedOrNone}
 use Rattle.reading.specs.Answer as answer
 use Rattle.reading.specs.Answer.{Got, refused, found, need, indexed, present, itemOf}
-use Rattle.format.specs.Faults.{tooLong, shortInput, invalidMagic, unsupportedVersion, sectionSizeMismatch, contentHashMismatch, invalidTaskType, invalidFieldType, invalidArrayStride, invalidConstantType, invalidConstantIndex, noFunction, noLine, unsortedMap, noDebug, noArray, sizeOverflow, noEntry}
+use Rattle.format.specs.Faults.{tooLong, shortInput, invalidMagic, unsupportedVersion, contentHashMismatch, invalidArrayStride, invalidConstantType, invalidConstantIndex, noFunction, noLine, unsortedMap, noArray, sizeOverflow, noEntry}
 use Rattle.format.specs.Parts.{limit, Place, cut, isInside, same, Keep, byBytes, byPlace}
 use Rattle.format.specs.Header.{Header, headerOf}
-use Rattle.format.specs.Integrity.{maskedHeader, sectionIn, hashedIn, hashedString, noHash, contentFits}
+use Rattle.format.specs.Integrity.{sectionIn, hashedIn, hashedString, noHash, contentFits}
 use Rattle.format.specs.Tasks.{task, program, TaskTable, taskTable}
-use Rattle.format.specs.Types.{field, fbType, strideFits, Array, array, userFb, TypeTables, typeTables}
+use Rattle.format.specs.Types.{field, fbType, strideFits, array, userFb, TypeTables, typeTables}
 use Rattle.format.specs.Constants.{Kept, Constant, sizeFits, constant, constants, numberIn, asNumber, stringIn, asString, charWidth}
 use Rattle.format.specs.Constants as kept
-use Rattle.format.specs.Code.{Function, Code, function, codeOf, bytecodeOf}
+use Rattle.format.specs.Code.{Code, function, codeOf, bytecodeOf}
 use Rattle.format.specs.Debug.{Line, Tables, debugTables}
 use Rattle.format.specs.Lines.{sorted, bestOf, lineFor}
 use Rattle.format.specs.Load.{readIn, hasTypes, typesFound, load}

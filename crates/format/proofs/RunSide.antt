@@ -6,7 +6,7 @@ use mathlib.Core.List.{List, []}
 use mathlib.Core.Option.{none}
 use native.Mathlib.Omega.{arith}
 use lib.Dec.{ltb, eqb, lit≤}
-use lib.ListN.{length, drop, take, getD, length-take, length-drop}
+use lib.ListN.{length, drop, take, getD}
 use lib.Seq.{getD-take, getD-drop, ext-getD}
 use borrow.Author.Tests.{le-leb}
 use Rattle.reading.specs.Numbers.{le, leAt}
@@ -14,7 +14,7 @@ use Rattle.reading.specs.Reader.{Reader}
 use Rattle.reading.specs.Answer.{Got, refused, found, _>>=_, need}
 use Rattle.reading.proofs.Parts.{part-of-part, length-part}
 use Rattle.format.specs.Faults.{invalidMagic, unsupportedVersion}
-use Rattle.format.specs.Parts.{limit, part, Place, cut, isInside, byBytes}
+use Rattle.format.specs.Parts.{limit, part, Place, isInside, byBytes}
 use Rattle.format.specs.Header.{Header, runtimeOf, directoryOf, fieldsOf, headerOf, typesFlag, withoutDebugBit}
 use Rattle.format.specs.Integrity.{maskedHeader, sectionIn, hashedIn, hashedString, contentFits}
 use Rattle.format.specs.Tasks.{taskTable}

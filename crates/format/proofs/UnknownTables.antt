@@ -3,26 +3,25 @@ use mathlib.Core.Path.{_≡_, refl, sym, ap, subst, _∙_}
 use mathlib.Core.Bool.{true}
 use mathlib.Core.List.{List, [], _∷_, _++_, append-assoc, append-cancel-right}
 use mathlib.Core.Option.{some}
-use Prim.Native.Nat.{ℕ, zero, suc, _+_, _*_, _≤_}
+use Prim.Native.Nat.{ℕ, zero, suc, _+_, _*_}
 use native.Mathlib.Omega.{arith}
 use lib.Dec.{ltb}
-use lib.ListN.{length, take, drop, length-append}
-use lib.Seq.{take-at, drop-at}
+use lib.ListN.{length, take, drop}
 use borrow.Author.Tests.{le-ltb, lt-ltb}
 use Rattle.reading.specs.Numbers.{le}
-use Rattle.reading.specs.Reader.{Read, fault, got, Reader, many, bytes, u16}
-use Rattle.reading.specs.Answer.{found, present, _>>=_}
+use Rattle.reading.specs.Reader.{got, Reader, many, bytes, u16}
+use Rattle.reading.specs.Answer.{present}
 use Rattle.reading.proofs.Reading.{both, bytes-all, bytes-length}
-use Rattle.reading.proofs.Local.{Taken, Local, local-bytes}
+use Rattle.reading.proofs.Local.{Taken, Local}
 use Rattle.format.specs.Faults.{noDebug}
 use Rattle.format.specs.Parts.{Place, cut, Inside, byBytes}
 use Rattle.format.specs.Header.{Header}
 use Rattle.format.specs.Integrity.{debugHashFits}
 use Rattle.format.specs.Debug.{Row, unknown, payload, tagOf, sizeOf, kindOf, tableOf, tablesOf, skipped, Tables, noTables, put, rowsOf, debugTables}
-use Rattle.format.specs.Load.{Loaded, load, readable, debugOf, debugFound}
-use Rattle.format.specs.Record.{Container, debugCounts, recordOf, readFrom}
+use Rattle.format.specs.Load.{load, readable, debugOf, debugFound}
+use Rattle.format.specs.Record.{Container, debugCounts, recordOf}
 use Rattle.format.specs.Lookups.{debugAnswersOf}
-use Rattle.format.specs.Added.{RowAndPayload, allRows, rowBytes, payloadBytes, Takes, WithUnknown, end, kept, added, TakenApart, Added}
+use Rattle.format.specs.Added.{RowAndPayload, allRows, rowBytes, payloadBytes, Takes, WithUnknown, end, kept, added, Added}
 use Rattle.format.specs.UnknownTables.{TablesAdded, UnknownTables, SameDebugRecords, UnknownTablesOfRecords}
 use Rattle.format.proofs.Answers.{absent, same-found, steps}
 use Rattle.format.proofs.Places.{is-inside}
@@ -158,6 +157,6 @@ unknown-tables-of-records hash f g r s d e h =
     subst (λ (x : Container). TablesAdded hash f (x .header) g (s .header) → SameDebugRecords f x g s) (same-found (a .second))
     (subst (λ (y : Container). TablesAdded hash f (a .item .header) g (y .header) → SameDebugRecords f (recordOf (a .item)) g y) (same-found (b .second))
     (λ k.
-        let z = unknown-tables hash f g (a .item) (b .item) (a .first) (b .first) k in
-        record { counts = _; in-first = ap debugCounts (z .in-first); in-second = ap debugCounts (z .in-second); answers = z .answers }))
+    let z = unknown-tables hash f g (a .item) (b .item) (a .first) (b .first) k in
+    record { counts = _; in-first = ap debugCounts (z .in-first); in-second = ap debugCounts (z .in-second); answers = z .answers }))
     h

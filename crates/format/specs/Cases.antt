@@ -11,7 +11,6 @@ use Rattle.format.specs.Faults.{invalidArrayStride, invalidConstantIndex
 use Rattle.format.specs.Parts.{byBytes}
 use Rattle.format.specs.Types.{Array, array, naturalStride, typeTables}
 use Rattle.format.specs.Constants.{constants, signed}
-use Rattle.format.specs.Code.{Function}
 use Rattle.format.specs.Debug.{noTables}
 use Rattle.format.specs.Lines.{lineFor}
 use Rattle.format.specs.Load.{debugOf}

@@ -1,11 +1,9 @@
 -- All that is claimed of the definitions, for any hash.
 use Prim.Native.Nat.{ℕ}
-use mathlib.Core.Path.{_≡_}
 use mathlib.Core.List.{List}
-use Rattle.reading.specs.Answer.{found, _>>=_}
-use Rattle.format.specs.Record.{Container, readFrom}
+use Rattle.format.specs.Record.{Container}
 use Rattle.format.specs.OwnRecord.{PlacesHold, OwnRecord}
-use Rattle.format.specs.RunSide.{runRecordOf, Premises, RunSideIndependence, RunSideOfRecords}
+use Rattle.format.specs.RunSide.{Premises, RunSideIndependence, RunSideOfRecords}
 use Rattle.format.specs.UnknownTables.{UnknownTables, UnknownTablesOfRecords}
 use Rattle.format.specs.Order.{Order}
 use Rattle.format.specs.Refusals.{Refusals}

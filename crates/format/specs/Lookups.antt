@@ -9,14 +9,14 @@ use lib.Dec.{leb}
 use lib.IntN.{ℤ}
 use lib.ListN.{length}
 use Rattle.reading.specs.Reader.{Reader}
-use Rattle.reading.specs.Answer.{Got, refused, found, _>>=_, _>>_, need, indexed, present}
+use Rattle.reading.specs.Answer.{Got, refused, found, _>>=_, _>>_, need, indexed}
 use Rattle.format.specs.Faults.{tooLong, invalidConstantIndex, noFunction, noDebug, noArray, sizeOverflow, noEntry}
 use Rattle.format.specs.Parts.{limit, Place, cut, Keep, byPlace}
 use Rattle.format.specs.Tasks.{Task, Program, TaskTable, taskTable}
-use Rattle.format.specs.Types.{Field, FbType, Array, UserFb, TypeTables, typeTables}
+use Rattle.format.specs.Types.{Field, Array, UserFb, TypeTables, typeTables}
 use Rattle.format.specs.Constants.{Constant, onConstant, constants, asNumber, signed, asString, charWidth}
 use Rattle.format.specs.Code.{Function, Code, codeOf, bytecodeOf}
-use Rattle.format.specs.Debug.{Line, Variable, onVariable, FunctionName, onFunctionName, StringLayout, SourceFile, onSourceFile, Enumeration, Tables, debugTables}
+use Rattle.format.specs.Debug.{Line, Variable, onVariable, FunctionName, onFunctionName, StringLayout, SourceFile, onSourceFile, Tables, debugTables}
 use Rattle.format.specs.Lines.{lineFor}
 use Rattle.format.specs.Load.{readIn}
 use Rattle.format.specs.Record.{TypeCounts, DebugCounts, Container}

@@ -4,10 +4,9 @@ use mathlib.Core.Path.{_≡_}
 use mathlib.Core.List.{List}
 use mathlib.Core.Option.{none, some}
 use lib.ListN.{length}
-use Rattle.reading.specs.Answer.{Got, refused, itemOf}
+use Rattle.reading.specs.Answer.{refused, itemOf}
 use Rattle.format.specs.Faults.{tooLong, sectionSizeMismatch, noArray, noDebug}
 use Rattle.format.specs.Parts.{limit, cut, Inside, byPlace}
-use Rattle.format.specs.Header.{Header}
 use Rattle.format.specs.Tasks.{taskTable}
 use Rattle.format.specs.Types.{typeTables}
 use Rattle.format.specs.Constants.{constants}

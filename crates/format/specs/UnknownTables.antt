@@ -10,7 +10,7 @@ use Rattle.format.specs.Header.{Header}
 use Rattle.format.specs.Integrity.{debugHashFits}
 use Rattle.format.specs.Debug.{Tables}
 use Rattle.format.specs.Load.{Loaded, load, debugOf}
-use Rattle.format.specs.Record.{DebugCounts, Container, debugCounts, recordOf, readFrom}
+use Rattle.format.specs.Record.{DebugCounts, Container, recordOf, readFrom}
 use Rattle.format.specs.Lookups.{debugAnswers, debugByBytes}
 use Rattle.format.specs.Added.{Added}
 

@@ -11,7 +11,7 @@ use lib.Seq.{length-take-le, take-at, drop-at}
 use borrow.Author.Tests.{le-ltb}
 use Rattle.reading.specs.Fault.{Fault}
 use Rattle.reading.specs.Numbers.{le}
-use Rattle.reading.specs.Reader.{got, Reader, _>>=_, _>>_, give, check, bytes, number, many, counted}
+use Rattle.reading.specs.Reader.{got, Reader, _>>=_, give, check, bytes, number, many, counted}
 use Rattle.reading.proofs.Reading.{never, both, bytes-short}
 
 -- the bytes that `r` takes off `s` to give `a` and leave `t`: before anything else they give `a` and leave that
