@@ -1,0 +1,5 @@
+pub mod Word
+pub mod Compression
+pub mod Rows
+pub mod Laws
+pub mod Vectors

@@ -1,0 +1,33 @@
+-- Words, numbers below 2 ^ 32, BLAKE3's operations on them, and the bytes that they stand for.
+use Prim.Native.Nat.{ℕ, zero, suc, _+_, _-_, _*_, _/_, _%_, _^_}
+use mathlib.Core.List.{List, [], _∷_, _++_}
+use lib.ListN.{getD}
+use lib.Bits.{bitXor}
+use Rattle.reading.specs.Numbers.{leAt}
+
+abbrev pub add32 : ℕ → ℕ → ℕ
+add32 x y = (x + y) % 2 ^ 32
+
+abbrev pub xor : ℕ → ℕ → ℕ
+xor x y = bitXor x y
+
+-- x rotated right by n: its n low bits come to stand above the others
+abbrev pub rotr : ℕ → ℕ → ℕ
+rotr n x = x / 2 ^ n + x % 2 ^ n * 2 ^ (32 - n)
+
+-- f 0, f 1, .., f (n - 1)
+unfoldable pub table : (ℕ → ℕ) → ℕ → List ℕ
+table f zero = []
+table f (suc n) = table f n ++ (f n ∷ [])
+
+-- the 16 words of a block: four bytes each, low byte first; a block of fewer than 64 bytes has zeros behind its end
+unfoldable pub words : List ℕ → List ℕ
+words b = table (λ i. leAt 4 b (4 * i)) 16
+
+-- the byte at place i of the words w, each word low byte first
+unfoldable pub byteAt : List ℕ → ℕ → ℕ
+byteAt w i = getD w (i / 4) 0 / 2 ^ (8 * (i % 4)) % 256
+
+-- the 32 bytes of eight words
+unfoldable pub bytesOf : List ℕ → List ℕ
+bytesOf w = table (byteAt w) 32

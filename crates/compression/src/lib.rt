@@ -1,0 +1,323 @@
+// BLAKE3's compression function. Each contract says that the result is what the definition of specs/ gives.
+ghost use mathlib.Core.Path.{_≡_};
+ghost use mathlib.Core.List.{_++_};
+ghost use Prim.Native.Nat.{_+_, _≤_};
+ghost use lib.ListN.{length, drop};
+ghost use Rattle.compression.specs.Word as W;
+ghost use Rattle.compression.specs.Compression as C;
+ghost use Rattle.compression.specs.Rows as R;
+
+// The first 32 bits of the fractional parts of the square roots of the first eight primes.
+const IV: [u32; 8] = [
+    0x6A09E667,
+    0xBB67AE85,
+    0x3C6EF372,
+    0xA54FF53A,
+    0x510E527F,
+    0x9B05688C,
+    0x1F83D9AB,
+    0x5BE0CD19,
+];
+
+// The chaining value before any input.
+pub fn iv() -> [u32; 8]
+    ensures { λ r. ⌜ r ≡ C.iv ⌝ }
+{
+    IV
+}
+
+// a + b modulo 2^32.
+fn add(a: u32, b: u32) -> u32
+    ensures { λ r. ⌜ r ≡ W.add32 a b ⌝ }
+{
+    std::num::wrapping_add_u32(a, b)
+}
+
+// The rotations. The two parts have no bit in common, so their sum is one rotation of the machine.
+fn rotr16(x: u32) -> u32
+    ensures { λ r. ⌜ r ≡ W.rotr 16 x ⌝ }
+{
+    (x >> 16) + (x << 16)
+}
+
+fn rotr12(x: u32) -> u32
+    ensures { λ r. ⌜ r ≡ W.rotr 12 x ⌝ }
+{
+    (x >> 12) + (x << 20)
+}
+
+fn rotr8(x: u32) -> u32
+    ensures { λ r. ⌜ r ≡ W.rotr 8 x ⌝ }
+{
+    (x >> 8) + (x << 24)
+}
+
+fn rotr7(x: u32) -> u32
+    ensures { λ r. ⌜ r ≡ W.rotr 7 x ⌝ }
+{
+    (x >> 7) + (x << 25)
+}
+
+// The state is a square of words, and a round works on its rows, four words place by place. Here a + b.
+fn sum(a: [u32; 4], b: [u32; 4]) -> [u32; 4]
+    ensures { λ r. ⌜ r ≡ R.sum a b ⌝ }
+{
+    [
+        add(a[0], b[0]),
+        add(a[1], b[1]),
+        add(a[2], b[2]),
+        add(a[3], b[3]),
+    ]
+}
+
+// a + b + x.
+fn sum3(a: [u32; 4], b: [u32; 4], x: [u32; 4]) -> [u32; 4]
+    ensures { λ r. ⌜ r ≡ R.sum3 a b x ⌝ }
+{
+    sum(sum(a, b), x)
+}
+
+// a ^ b, each word rotated: by 16, 12, 8 or 7.
+fn turn16(a: [u32; 4], b: [u32; 4]) -> [u32; 4]
+    ensures { λ r. ⌜ r ≡ R.turn 16 a b ⌝ }
+{
+    [
+        rotr16(a[0] ^ b[0]),
+        rotr16(a[1] ^ b[1]),
+        rotr16(a[2] ^ b[2]),
+        rotr16(a[3] ^ b[3]),
+    ]
+}
+
+fn turn12(a: [u32; 4], b: [u32; 4]) -> [u32; 4]
+    ensures { λ r. ⌜ r ≡ R.turn 12 a b ⌝ }
+{
+    [
+        rotr12(a[0] ^ b[0]),
+        rotr12(a[1] ^ b[1]),
+        rotr12(a[2] ^ b[2]),
+        rotr12(a[3] ^ b[3]),
+    ]
+}
+
+fn turn8(a: [u32; 4], b: [u32; 4]) -> [u32; 4]
+    ensures { λ r. ⌜ r ≡ R.turn 8 a b ⌝ }
+{
+    [
+        rotr8(a[0] ^ b[0]),
+        rotr8(a[1] ^ b[1]),
+        rotr8(a[2] ^ b[2]),
+        rotr8(a[3] ^ b[3]),
+    ]
+}
+
+fn turn7(a: [u32; 4], b: [u32; 4]) -> [u32; 4]
+    ensures { λ r. ⌜ r ≡ R.turn 7 a b ⌝ }
+{
+    [
+        rotr7(a[0] ^ b[0]),
+        rotr7(a[1] ^ b[1]),
+        rotr7(a[2] ^ b[2]),
+        rotr7(a[3] ^ b[3]),
+    ]
+}
+
+// The state with the rows a, b, c, d.
+fn square(a: [u32; 4], b: [u32; 4], c: [u32; 4], d: [u32; 4]) -> [u32; 16]
+    ensures { λ r. ⌜ r ≡ R.square a b c d ⌝ }
+{
+    [
+        a[0],
+        a[1],
+        a[2],
+        a[3],
+        b[0],
+        b[1],
+        b[2],
+        b[3],
+        c[0],
+        c[1],
+        c[2],
+        c[3],
+        d[0],
+        d[1],
+        d[2],
+        d[3],
+    ]
+}
+
+// A round: the four columns side by side, then the four diagonals.
+fn round(v: [u32; 16], m: [u32; 16]) -> [u32; 16]
+    ensures { λ r. ⌜ r ≡ C.round v m ⌝ }
+{
+    let a0 = [v[0], v[1], v[2], v[3]];
+    let b0 = [v[4], v[5], v[6], v[7]];
+    let c0 = [v[8], v[9], v[10], v[11]];
+    let d0 = [v[12], v[13], v[14], v[15]];
+    // The columns.
+    let a1 = sum3(a0, b0, [m[0], m[2], m[4], m[6]]);
+    let d1 = turn16(d0, a1);
+    let c1 = sum(c0, d1);
+    let b1 = turn12(b0, c1);
+    let a2 = sum3(a1, b1, [m[1], m[3], m[5], m[7]]);
+    let d2 = turn8(d1, a2);
+    let c2 = sum(c1, d2);
+    let b2 = turn7(b1, c2);
+    // The diagonals: they are columns once the rows below the first are shifted by 1, 2 and 3 places.
+    let b3 = [b2[1], b2[2], b2[3], b2[0]];
+    let c3 = [c2[2], c2[3], c2[0], c2[1]];
+    let d3 = [d2[3], d2[0], d2[1], d2[2]];
+    let a4 = sum3(a2, b3, [m[8], m[10], m[12], m[14]]);
+    let d4 = turn16(d3, a4);
+    let c4 = sum(c3, d4);
+    let b4 = turn12(b3, c4);
+    let a5 = sum3(a4, b4, [m[9], m[11], m[13], m[15]]);
+    let d5 = turn8(d4, a5);
+    let c5 = sum(c4, d5);
+    let b5 = turn7(b4, c5);
+    // The rows shifted back.
+    let b6 = [b5[3], b5[0], b5[1], b5[2]];
+    let c6 = [c5[2], c5[3], c5[0], c5[1]];
+    let d6 = [d5[1], d5[2], d5[3], d5[0]];
+    square(a5, b6, c6, d6)
+}
+
+// The order in which the next round takes the words of the message.
+fn permute(m: [u32; 16]) -> [u32; 16]
+    ensures { λ r. ⌜ r ≡ C.permute m ⌝ }
+{
+    [
+        m[2],
+        m[6],
+        m[3],
+        m[10],
+        m[7],
+        m[0],
+        m[4],
+        m[13],
+        m[1],
+        m[11],
+        m[12],
+        m[5],
+        m[9],
+        m[14],
+        m[15],
+        m[8],
+    ]
+}
+
+// The seven rounds.
+fn rounds(state: [u32; 16], block: [u32; 16]) -> [u32; 16]
+    ensures { λ r. ⌜ r ≡ C.rounds 7 state block ⌝ }
+{
+    let mut v = state;
+    let mut m = block;
+    for _ in 0..7usize {
+        let w = round(v, m);
+        let n = permute(m);
+        v = w;
+        m = n;
+    }
+    v
+}
+
+// The state that compression starts from.
+fn start(h: [u32; 8], t: u64, len: u32, flags: u32) -> [u32; 16]
+    ensures { λ r. ⌜ r ≡ C.start h t len flags ⌝ }
+{
+    [
+        h[0],
+        h[1],
+        h[2],
+        h[3],
+        h[4],
+        h[5],
+        h[6],
+        h[7],
+        IV[0],
+        IV[1],
+        IV[2],
+        IV[3],
+        (t % 4294967296) as u32,
+        (t / 4294967296) as u32,
+        len,
+        flags,
+    ]
+}
+
+// The two halves of the state, word by word.
+fn fold(v: [u32; 16]) -> [u32; 8]
+    ensures { λ r. ⌜ r ≡ C.fold v ⌝ }
+{
+    [
+        v[0] ^ v[8],
+        v[1] ^ v[9],
+        v[2] ^ v[10],
+        v[3] ^ v[11],
+        v[4] ^ v[12],
+        v[5] ^ v[13],
+        v[6] ^ v[14],
+        v[7] ^ v[15],
+    ]
+}
+
+// The compression function's first eight words: chaining value h, message m, counter t, length of the block, flags.
+pub fn compress(h: [u32; 8], m: [u32; 16], t: u64, len: u32, flags: u32) -> [u32; 8]
+    ensures { λ r. ⌜ r ≡ C.compress h m t len flags ⌝ }
+{
+    fold(rounds(start(h, t, len, flags), m))
+}
+
+// The words of the block of s that starts at `at`.
+pub fn words_at(s: &[u8], at: usize) -> [u32; 16]
+    requires { ⌜ at + 64 ≤ length (now s) ⌝ }
+    ensures { λ r. ⌜ r ≡ W.words (drop at (now (s .entry))) ⌝ }
+{
+    let mut w = [0u32; 16];
+    for i in 0..16usize {
+        w[i] = reading::u32_at(s, at + 4 * i);
+    }
+    w
+}
+
+// The words of a block.
+pub fn words_of(b: [u8; 64]) -> [u32; 16]
+    ensures { λ r. ⌜ r ≡ W.words b ⌝ }
+{
+    words_at(&b, 0)
+}
+
+// The bytes of eight words, each word low byte first.
+pub fn bytes_of(w: [u32; 8]) -> [u8; 32]
+    ensures { λ r. ⌜ r ≡ W.bytesOf w ⌝ }
+{
+    let mut b = [0u8; 32];
+    for i in 0..32usize {
+        b[i] = ((w[i / 4] >> (8 * (i % 4))) % 256) as u8;
+    }
+    b
+}
+
+// Two chaining values as the block of their parent.
+pub fn join(l: [u32; 8], r: [u32; 8]) -> [u32; 16]
+    ensures { λ b. ⌜ b ≡ l ++ r ⌝ }
+{
+    [
+        l[0],
+        l[1],
+        l[2],
+        l[3],
+        l[4],
+        l[5],
+        l[6],
+        l[7],
+        r[0],
+        r[1],
+        r[2],
+        r[3],
+        r[4],
+        r[5],
+        r[6],
+        r[7],
+    ]
+}
