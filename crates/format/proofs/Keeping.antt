@@ -1,18 +1,18 @@
 -- Two ways to keep the strings, names and paths of one section: where one follows from the other, so do the tables, read either way.
-use mathlib.Core.Path.{_≡_, refl, sym, ap, _∙_}
+use mathlib.Core.Path.{_≡_, refl, ap, _∙_}
 use mathlib.Core.Bool.{Bool, true, false, cond}
 use mathlib.Core.List.{List, [], _∷_, _++_, map}
 use Prim.Native.Nat.{ℕ, zero, suc, _+_, _-_, _≤_}
 use native.Mathlib.Decide.{decLe}
 use native.Mathlib.Omega.{arith}
 use lib.Dec.{leb}
-use lib.ListN.{length, take, drop, replicate, length-append, length-drop}
-use lib.Seq.{drop-drop, drop-at}
+use lib.ListN.{length, take, drop, replicate, length-drop}
 use Rattle.utf8.specs.Utf8.{utf8}
 use Rattle.reading.specs.Fault.{Fault}
 use Rattle.reading.specs.Reader.{Read, fault, got, Reader, next, _>>=_, _>>_, give, check, left, bytes, number, many, counted}
 use Rattle.reading.proofs.Reading.{bytes-at, bytes-short}
-use Rattle.reading.proofs.Local.{Taken, Local, local-check, local-bytes, local-number, local-counted}
+use Rattle.reading.proofs.Left.{LeftOf, left-taken}
+use Rattle.reading.proofs.Local.{Local, local-check, local-bytes, local-number, local-counted}
 use Rattle.format.specs.Parts.{Keep}
 use Rattle.format.specs.Constants.{string, onKept, onConstant, keptOf, isNumber, sizeFits, constant, constants}
 use Rattle.format.specs.Constants as kept
@@ -47,27 +47,6 @@ module _ {T U : Type 0} (h : U → T) where
         files = map (onSourceFile h) (t .files);
         enumerations = map onEnumeration (t .enumerations);
       }
-
--- `s` is what is left of the section `whole` behind some of its bytes
-pub record LeftOf (whole s : List ℕ) : Type 0 where
-  pub behind : ℕ
-  pub most : behind ≤ length whole
-  pub is : s ≡ drop behind whole
-
-pub left-all : (whole : List ℕ) → LeftOf whole whole
-left-all whole = record { behind = 0; most = omega arith; is = refl }
-
--- behind what a local reader took
-pub left-taken : {A : Type 0} {r : Reader A} (whole s : List ℕ) (a : A) (t : List ℕ) → LeftOf whole s → Taken r s a t → LeftOf whole t
-left-taken whole s a t w k =
-    let n = length (k .front) in
-    let l = ap length (w .is ∙ refl) ∙ length-drop (w .behind) whole in
-    let m = ap length (k .split) ∙ length-append (k .front) t in
-    record {
-      behind = w .behind + n;
-      most = omega arith;
-      is = sym (drop-at (k .front) t n refl) ∙ ap (drop n) (sym (k .split) ∙ w .is) ∙ drop-drop n (w .behind) whole;
-    }
 
 -- Two readers at work on what is left of `whole`: they stop with the same fault, or give an item and the same item by `m`
 

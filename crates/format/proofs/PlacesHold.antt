@@ -14,6 +14,7 @@ use Rattle.reading.specs.Reader.{Read, fault, got, Reader, many}
 use Rattle.reading.specs.Answer.{Got, refused, found, _>>=_, need, indexed, itemOf}
 use Rattle.reading.proofs.Parts.{length-part, part-of-part}
 use Rattle.reading.proofs.Reading.{both}
+use Rattle.reading.proofs.Left.{LeftOf, left-all, left-taken}
 use Rattle.reading.proofs.Local.{local-many}
 use Rattle.format.specs.Faults.{tooLong, sectionSizeMismatch, invalidConstantIndex, noFunction, noEntry}
 use Rattle.format.specs.Parts.{limit, part, Place, cut, isInside, Keep, byBytes, byPlace}
@@ -33,7 +34,7 @@ use Rattle.format.specs.OwnRecord.{PlacesHold}
 use Rattle.format.proofs.Answers.{never, same-found, assoc, renamed}
 use Rattle.format.proofs.Places.{length-cut}
 use Rattle.format.proofs.Readers.{local-function}
-use Rattle.format.proofs.Keeping.{LeftOf, left-all, left-taken, Alike, stops, gives, Same, onEnumeration, onTables, same-constants, same-debug}
+use Rattle.format.proofs.Keeping.{Alike, stops, gives, Same, onEnumeration, onTables, same-constants, same-debug}
 
 -- a part of a section that is inside, by its place in the file
 module _ (f : List ℕ) (p : Place) (h : isInside f p ≡ true) where

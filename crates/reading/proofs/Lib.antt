@@ -5,3 +5,4 @@ pub mod Width
 pub mod Passing
 pub mod Tables
 pub mod Local
+pub mod Left

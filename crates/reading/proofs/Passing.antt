@@ -1,5 +1,5 @@
 -- Passing over items: the laws of `Goes`. A loop over a table keeps `Passed`, and needs its four laws alone.
-use mathlib.Core.Path.{_≡_, refl, ap, subst, _∙_}
+use mathlib.Core.Path.{_≡_, refl, subst}
 use mathlib.Core.List.{List, [], _∷_}
 use Prim.Native.Nat.{ℕ, suc, _+_, _-_, _≤_, _<_}
 use native.Mathlib.Nat.{sub-zero}
@@ -8,8 +8,7 @@ use lib.ListN.{length, drop, length-drop}
 use Rattle.reading.specs.Fault.{Fault, shortInput}
 use Rattle.reading.specs.Numbers.{leAt}
 use Rattle.reading.specs.Reader.{fault, got, Reader, next, _>>=_, give, many, counted}
-use Rattle.reading.specs.Places.{Step, item, Reads, Way, stopsBy, onTo, Goes, leftOf, Next, Steps}
-use Rattle.reading.specs.declared.Table.{Table}
+use Rattle.reading.specs.Places.{Step, Reads, Way, stopsBy, onTo, Goes}
 use Rattle.reading.proofs.Reading.{number-at, number-short}
 
 module _ {A : Type 0} (r : Reader A) (s : List ℕ) where
@@ -53,14 +52,6 @@ module _ {A : Type 0} (r : Reader A) (s : List ℕ) where
       go (stopsBy f) g = rw (z, e, g)
       go (onTo k) g = (g .0, (a ∷ g .1 .0, rw (z, e, g .1 .1)))
 
-  -- one step of a walk that the caller drives
-  pub steps-stop : (t : Table) (f : Fault) → 0 < t .count → r (drop (t .at) s) ≡ fault f → leftOf r s t ≡ fault f
-  steps-stop t f h e = let z : t .count ≡ suc (t .count - 1) = omega arith in rw (z, e)
-
-  pub steps-entry : (t : Table) (a : A) (m : ℕ) → 0 < t .count → r (drop (t .at) s) ≡ got a (drop m s)
-      → leftOf r s t ≡ next (leftOf r s (record { at = m; count = t .count - 1 })) (λ xs. give (a ∷ xs))
-  steps-entry t a m h e = let z : t .count ≡ suc (t .count - 1) = omega arith in ap (λ (n : ℕ). many n r (drop (t .at) s)) z ∙ rw e
-
   -- a table with its count in front
   pub counted-short : (at : ℕ) → length s - at < 2 → counted r (drop at s) ≡ fault shortInput
   counted-short at h = let l = length-drop at s in rw (number-short 2 (drop at s) (omega arith))
@@ -74,6 +65,3 @@ goes-told r s at e g = subst (λ x. Goes r s at x) e g
 
 pub reads-told : {A : Type 0} (r : Reader A) (s : List ℕ) (at : ℕ) {v w : Step A} → v ≡ w → Reads r s at v → Reads r s at w
 reads-told r s at e g = subst (λ x. Reads r s at x) e g
-
-pub steps-told : {A : Type 0} (r : Reader A) (s : List ℕ) (t : Table) {v w : Next A} → v ≡ w → Steps r s t v → Steps r s t w
-steps-told r s t e g = subst (λ x. Steps r s t x) e g

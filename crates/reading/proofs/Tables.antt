@@ -12,7 +12,7 @@ use Rattle.reading.specs.Fault.{Fault}
 use Rattle.reading.specs.Numbers.{leAt}
 use Rattle.reading.specs.Reader.{Read, fault, got, Reader, next, give, many, counted}
 use Rattle.reading.specs.Answer.{refused, found, indexed}
-use Rattle.reading.specs.Places.{onTo, Goes, leftOf, Holds, ends, faulty, entry, Steps}
+use Rattle.reading.specs.Places.{onTo, Goes, Holds, ends, entry}
 use Rattle.reading.specs.declared.Table.{Table}
 use Rattle.reading.proofs.Reading.{never, both}
 use Rattle.reading.proofs.Passing.{counted-short, counted-as}
@@ -136,16 +136,3 @@ module _ {A : Type 0} (r : Reader A) where
     pub counted-holds : (t : Table) → at + 2 ≤ length s → t .at ≡ at + 2 → t .count ≡ leAt 2 s at → Holds r s t (g .1 .0)
     counted-holds t h p n =
         record { within = omega arith; rest = drop m s; reads = ap (λ (i : ℕ). many (t .count) r (drop i s)) p ∙ sym (counted-as r s at (t .count) h n) ∙ g .1 .1 }
-
-  -- a caller's walk over a readable table: a step meets no fault, and gives the first entry and a table of the others
-  module _ (s : List ℕ) (t : Table) (xs : List A) (h : Holds r s t xs) where
-    pub steps-never : (f : Fault) → Steps r s t (faulty f) → ⊥
-    steps-never f g = never (sym g ∙ h .reads)
-
-    pub steps-first : (a : A) (u : Table) → Steps r s t (entry a u) → (ys : List A) × (xs ≡ a ∷ ys) × Holds r s u ys
-    steps-first a u g =
-        let b = both (leftOf r s u) (sym (g .2) ∙ h .reads) in
-        (b .item, cc (b .second), record { within = g .0; rest = b .middle; reads = b .first })
-
-    pub steps-none : Steps r s t ends → xs ≡ []
-    steps-none e = let p : got xs (h .rest) ≡ got [] (drop (t .at) s) = sym (h .reads) ∙ ap (λ (n : ℕ). many n r (drop (t .at) s)) e in cc

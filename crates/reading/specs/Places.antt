@@ -1,10 +1,13 @@
 -- How code that keeps places instead of lists is held to a reader.
-use Prim.Native.Nat.{ℕ, _+_, _≤_}
-use mathlib.Core.List.{List, _∷_}
+use Prim.Native.Nat.{ℕ, zero, suc, _-_, _≤_}
+use mathlib.Core.Bool.{cond}
+use mathlib.Core.List.{List, [], _∷_}
 use mathlib.Core.Path.{_≡_}
+use lib.Dec.{eqb}
 use lib.ListN.{length, drop}
 use Rattle.reading.specs.Fault.{Fault}
-use Rattle.reading.specs.Reader.{Read, fault, got, Reader, next, give, many}
+use Rattle.reading.specs.Reader.{Read, fault, got, Reader, many}
+use Rattle.reading.specs.Answer.{Got, refused, found, _>>=_}
 use Rattle.reading.specs.declared.Table.{Table}
 
 -- an item read at a place: it stops with a fault, or is `a` and ends at `m`
@@ -35,13 +38,27 @@ pub record Holds {A : Type 0} (r : Reader A) (s : List ℕ) (t : Table) (xs : Li
   pub rest : List ℕ
   pub reads : leftOf r s t ≡ got xs rest
 
--- one step of a walk over a table: no entry is left; the next one stops with a fault; or it is `a`, and `t` has the others
+-- One step of a walk over a table, over any list and table: no entry is left; the next one stops with a fault; or it is `a`, and the table
+-- of the others starts behind it
+
 pub data Next (A : Type 0) : Type 0 where
   ends : Next A
   faulty : Fault → Next A
   entry : A → Table → Next A
 
-abbrev pub Steps : {A : Type 0} → Reader A → List ℕ → Table → Next A → Type 0
-Steps r s t ends = t .count ≡ 0
-Steps r s t (faulty f) = leftOf r s t ≡ fault f
-Steps r s t (entry a u) = (u .at ≤ length s) × (u .count + 1 ≡ t .count) × (leftOf r s t ≡ next (leftOf r s u) (λ xs. give (a ∷ xs)))
+abbrev pub nextOf : {A : Type 0} → List ℕ → Table → Read A → Next A
+nextOf s t (fault f) = faulty f
+nextOf s t (got a rest) = entry a (record { at = length s - length rest; count = t .count - 1 })
+
+unfoldable pub stepOf : {A : Type 0} → Reader A → List ℕ → Table → Next A
+stepOf r s t = cond (eqb (t .count) 0) ends (nextOf s t (r (drop (t .at) s)))
+
+-- the entries that at most `n` steps give, one behind the other
+abbrev pub onNext : {A : Type 0} → Next A → (Table → Got (List A)) → Got (List A)
+onNext ends go = found []
+onNext (faulty f) go = refused f
+onNext (entry a u) go = go u >>= λ xs. found (a ∷ xs)
+
+abbrev pub walked : {A : Type 0} → ℕ → Reader A → List ℕ → Table → Got (List A)
+walked zero r s t = found []
+walked (suc n) r s t = onNext (stepOf r s t) (walked n r s)
