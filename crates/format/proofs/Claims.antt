@@ -6,6 +6,8 @@ use Rattle.format.proofs.PlacesHold.{places-hold}
 use Rattle.format.proofs.OwnRecord.{own-record}
 use Rattle.format.proofs.RunSide.{premises, run-side-independence, run-side-of-records}
 use Rattle.format.proofs.UnknownTables.{unknown-tables, unknown-tables-of-records}
+use Rattle.format.proofs.Layouts.{layouts, mill-counts, hash-limit}
+use Rattle.format.proofs.LineFound.{line-found}
 use Rattle.format.proofs.Examples.{first-half-speaks, types-premise-needed, empty-code-place-needed, content-hash-needed, second-half-speaks, cases, wrong-turns}
 
 pub claims-hold : AllClaims
@@ -15,6 +17,7 @@ claims-hold hash =
       order = order;
       places-hold = places-hold;
       own-record = own-record hash;
+      line-found = line-found;
       premises = premises;
       run-side-independence = run-side-independence hash;
       run-side-of-records = run-side-of-records hash;
@@ -23,8 +26,11 @@ claims-hold hash =
       first-half-speaks = first-half-speaks hash;
       types-premise-needed = types-premise-needed hash;
       empty-code-place-needed = empty-code-place-needed hash;
-      content-hash-needed = content-hash-needed;
+      content-hash-needed = content-hash-needed hash;
       second-half-speaks = second-half-speaks hash;
       cases = cases hash;
       wrong-turns = wrong-turns hash;
+      layouts = layouts;
+      mill-counts = mill-counts hash;
+      hash-limit = hash-limit;
     }

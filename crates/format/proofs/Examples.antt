@@ -2,7 +2,7 @@
 use Prim.Native.Nat.{ℕ, _+_}
 use mathlib.Core.Path.{_≡_, refl}
 use mathlib.Core.Bool.{Bool, true, false}
-use mathlib.Core.List.{List, [], _∷_, _++_}
+use mathlib.Core.List.{List, [], _∷_}
 use lib.Dec.{T, leb, le→leb, lit≤}
 use lib.ListN.{length}
 use Rattle.utf8.specs.Utf8.{utf8, goodLength, goodAfter, sequenceAt}
@@ -22,7 +22,7 @@ use Rattle.format.specs.Load.{load, readIn, hasTypes, typesFound, debugO
 use Rattle.format.specs.Lookups.{readAt, debugIn}
 use Rattle.format.specs.RunSide.{placed, empty, SameRunSide}
 use Rattle.format.specs.Added.{RowAndPayload, end, kept, added, Added}
-use Rattle.format.specs.Examples.{lineRow, lineTable, unknownRow, unknownTable, mill, stripped, millMore, shorter, longer, tiny, displaced, hashed}
+use Rattle.format.specs.Examples.{lineRow, lineTable, lines, unknownRow, unknownTable, linesMore, mill, stripped, millMore, typesInside, typesBefore, tiny, displaced, hashed}
 use Rattle.format.specs.Examples.{FirstHalfSpeaks, TypesPremiseNeeded, EmptyCodePlaceNeeded, ContentHashNeeded, SecondHalfSpeaks}
 use Rattle.format.specs.Cases.{Cases, WrongTurns}
 
@@ -63,12 +63,13 @@ types-premise-needed hash =
     record {
       limits = (lit≤ tt, lit≤ tt);
       headers = record { before-flags = refl; flags = refl; from-8-to-71 = refl; from-104-to-135 = refl; from-192-to-255 = refl };
-      tasks = record { in-first = inside longer _ tt tt; in-second = inside shorter _ tt tt; sizes = refl; bytes = refl };
-      constants = record { in-first = inside longer _ tt tt; in-second = inside shorter _ tt tt; sizes = refl; bytes = refl };
-      code = record { in-first = inside longer _ tt tt; in-second = inside shorter _ tt tt; sizes = refl; bytes = refl };
+      tasks = record { in-first = inside typesInside _ tt tt; in-second = inside typesBefore _ tt tt; sizes = refl; bytes = refl };
+      constants = record { in-first = inside typesInside _ tt tt; in-second = inside typesBefore _ tt tt; sizes = refl; bytes = refl };
+      code = record { in-first = inside typesInside _ tt tt; in-second = inside typesBefore _ tt tt; sizes = refl; bytes = refl };
       types-sizes = refl;
-      types-in-first = inside longer _ tt tt;
-      types-not-in-second = λ h. le→leb _ _ (h .within);
+      types-bytes = refl;
+      types-in-first = inside typesInside _ tt tt;
+      types-not-in-second = λ h. le→leb _ _ (h .behind);
       first-answer = refl;
       second-answer = refl;
     }
@@ -88,9 +89,9 @@ empty-code-place-needed hash =
       second-refused = refl;
     }
 
-pub content-hash-needed : ContentHashNeeded
+pub content-hash-needed : (hash : List ℕ → List ℕ) → ContentHashNeeded hash
 unfolding load headerOf runtimeOf directoryOf le bytes contentFits hashedString hashedIn maskedHeader readIn sectionIn isInside task.taskTable typesFound hasTypes pool.constants code.codeOf
-content-hash-needed =
+content-hash-needed hash =
     record {
       limits = (lit≤ tt, lit≤ tt);
       up-to-7 = refl;
@@ -100,21 +101,21 @@ content-hash-needed =
       types = empty refl refl;
       constants = record { in-first = inside tiny _ tt tt; in-second = inside hashed _ tt tt; sizes = refl; bytes = refl };
       code = record { in-first = inside tiny _ tt tt; in-second = inside hashed _ tt tt; sizes = refl; bytes = refl };
-      first-loads = the-found (load (λ _. []) tiny) tt;
-      second-refused = refl;
+      first-loads = the-found (load hash tiny) tt;
+      second-refused = λ never. rw (never _);
     }
 
 -- The second half
 
 -- the sections: M's has the row of lines, the other an unknown row before it
-sections : Added (1 ∷ 0 ∷ lineRow 32 ++ lineTable) (2 ∷ 0 ∷ unknownRow ++ lineRow 32 ++ unknownTable ++ lineTable)
+sections : Added lines linesMore
 unfolding rowsOf bytes le tableOf tagOf sizeOf kindOf line
 sections =
-    let lines : RowAndPayload = record { row = lineRow 32; payload = lineTable } in
+    let known : RowAndPayload = record { row = lineRow 0; payload = lineTable } in
     let other : RowAndPayload = record { row = unknownRow; payload = unknownTable } in
     record {
-      old = record { parts = lines ∷ []; behindRows = lineTable; rest = []; rows = refl; takes = (_, [], refl, refl, refl) };
-      new = other ∷ lines ∷ [];
+      old = record { parts = known ∷ []; behindRows = lineTable; rest = []; rows = refl; takes = (_, [], refl, refl, refl) };
+      new = other ∷ known ∷ [];
       woven = added (record { whole = refl; notListed = refl; sized = refl }) (kept end);
       low = 2;
       high = 0;
@@ -150,7 +151,7 @@ pub cases : (hash : List ℕ → List ℕ) → Cases hash
 unfolding load headerOf runtimeOf directoryOf le bytes contentFits readIn sectionIn isInside task.taskTable task.task task.program typesFound hasTypes types.typeTables types.fbType types.array types.userFb pool.constants pool.constant pool.keptOf code.codeOf code.function debugFound debugOf debugHashFits debugTables rowsOf tableOf tagOf sizeOf kindOf line debugIn lineFor sorted utf8 goodLength goodAfter sequenceAt
 cases hash =
     record {
-      strides = (refl, refl, refl, refl);
+      strides = (refl, refl, λ extra. refl, refl);
       stride-15 = refl;
       stride-17 = refl;
       index-0 = refl;

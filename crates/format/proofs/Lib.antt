@@ -10,4 +10,6 @@ pub mod RunSide
 pub mod Order
 pub mod UnknownTables
 pub mod Refusals
+pub mod LineFound
+pub mod Layouts
 pub mod Claims

@@ -16,7 +16,7 @@ use Rattle.format.specs.Types.{TypeTables, typeTables}
 use Rattle.format.specs.Constants.{constants}
 use Rattle.format.specs.Code.{codeOf}
 use Rattle.format.specs.Debug.{Tables}
-use Rattle.format.specs.Load.{Loaded, readIn, hasTypes, typesFound, debugSized, debugInside, debugHashed, debugOf, debugFound, load}
+use Rattle.format.specs.Load.{Loaded, readIn, hasTypes, typesFound, debugSized, debugInside, debugHashRight, debugOf, debugFound, load}
 use Rattle.format.proofs.Answers.{absent, same-found, same-some, steps, needed, first-of, second-of}
 
 pub record Facts (hash : List ℕ → List ℕ) (f : List ℕ) (l : Loaded) : Type 0 where
@@ -69,9 +69,9 @@ types-read f h t e = go (hasTypes f h) refl e
 pub debug-read : (hash : List ℕ → List ℕ) (f : List ℕ) (h : Header) (t : Tables (List ℕ)) → debugFound hash f h ≡ some t
     → (isInside f (h .directory .debug) ≡ true) × (debugOf (cut f (h .directory .debug)) ≡ some t)
 unfolding debugFound
-debug-read hash f h t e = go (debugSized h && debugInside f h && debugHashed hash f h) refl e
+debug-read hash f h t e = go (debugSized h && debugInside f h && debugHashRight hash f h) refl e
   where
-    go : (z : Bool) → debugSized h && debugInside f h && debugHashed hash f h ≡ z → cond z (debugOf (cut f (h .directory .debug))) none ≡ some t
+    go : (z : Bool) → debugSized h && debugInside f h && debugHashRight hash f h ≡ z → cond z (debugOf (cut f (h .directory .debug))) none ≡ some t
         → (isInside f (h .directory .debug) ≡ true) × (debugOf (cut f (h .directory .debug)) ≡ some t)
-    go true i e = (second-of (debugSized h) (debugInside f h) (first-of (debugSized h && debugInside f h) (debugHashed hash f h) i), e)
+    go true i e = (second-of (debugSized h) (debugInside f h) (first-of (debugSized h && debugInside f h) (debugHashRight hash f h) i), e)
     go false i e = absent e

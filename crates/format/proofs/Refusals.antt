@@ -7,12 +7,12 @@ use mathlib.Core.Option.{Option, none, some}
 use lib.Dec.{leb, ltb, eqb}
 use lib.ListN.{length, take, drop}
 use borrow.Author.Tests.{leb-false}
-use Rattle.reading.specs.Fault.{Fault}
+use Rattle.reading.specs.Fault.{Fault, shortInput}
 use Rattle.reading.specs.Numbers.{leAt}
 use Rattle.reading.specs.Reader.{Read, fault, got, Reader, next, _>>=_, give, check, bytes, number, many, counted, countedOrNone}
 use Rattle.reading.specs.Answer as answer
 use Rattle.reading.specs.Answer.{Got, refused, found, need, indexed, present, itemOf}
-use Rattle.format.specs.Faults.{tooLong, shortInput, invalidMagic, unsupportedVersion, contentHashMismatch, invalidArrayStride, invalidConstantType, invalidConstantIndex, noFunction, noLine, unsortedMap, noArray, sizeOverflow, noEntry}
+use Rattle.format.specs.Faults.{tooLong, invalidMagic, unsupportedVersion, contentHashMismatch, invalidArrayStride, invalidConstantType, invalidConstantIndex, noFunction, noLine, unsortedMap, noArray, sizeOverflow, noEntry}
 use Rattle.format.specs.Parts.{limit, Place, cut, isInside, same, Keep, byBytes, byPlace}
 use Rattle.format.specs.Header.{Header, headerOf}
 use Rattle.format.specs.Integrity.{sectionIn, hashedIn, hashedString, noHash, contentFits}
@@ -28,7 +28,7 @@ use Rattle.format.specs.Record.{TypeCounts, DebugCounts, Container}
 use Rattle.format.specs.Lookups.{readAt, tasksIn, typesBy, typesIn, constantsIn, codeIn, orNoDebug, debugBy, debugIn}
 use Rattle.format.specs.Lookups.{taskOf, programOf, fbTypeOf, fieldOf, arrayOf, byteSize, arraySizeOf, userFbOf, constantOf, numberOf, stringOf, charWidthOf, functionOf, functionBytesOf, enumerationOf, enumerationValueOf, runAnswers, debugAnswers}
 use Rattle.format.specs.Refusals as of
-use Rattle.format.specs.Refusals.{OfReading, OfLookups, Only, OnlyRun, OnlyDebug, Refusals}
+use Rattle.format.specs.Refusals.{OfSections, OfReading, OfLookups, Only, OnlyRun, OnlyDebug, Refusals}
 
 -- Answers one behind the other
 
@@ -54,14 +54,19 @@ module _ (P : Fault → Type 0) where
   only-cond true x y h g = h
   only-cond false x y h g = g
 
-only-more : {A : Type 0} (x : Got A) → Only OfReading x → Only OfLookups x
-only-more (refused r) h = of.reading h
-only-more (found a) h = tt
+-- a section's refusal is one of reading and one of lookups
+to-reading : {A : Type 0} (x : Got A) → Only OfSections x → Only OfReading x
+to-reading (refused r) h = OfReading.section h
+to-reading (found a) h = tt
+
+to-lookups : {A : Type 0} (x : Got A) → Only OfSections x → Only OfLookups x
+to-lookups (refused r) h = OfLookups.section h
+to-lookups (found a) h = tt
 
 -- Readers
 
 abbrev Fair : {A : Type 0} → Read A → Type 0
-Fair (fault f) = OfReading f
+Fair (fault f) = OfSections f
 Fair (got a s) = Unit {0}
 
 abbrev Each : {A : Type 0} → Reader A → Type 0
@@ -74,7 +79,7 @@ fair-next f (got a s) h g = g a s
 each-then : {A B : Type 0} (r : Reader A) (f : A → Reader B) → Each r → ((a : A) → Each (f a)) → Each (r >>= f)
 each-then r f h g s = fair-next f (r s) (h s) g
 
-each-check : (t : Bool) (x : Fault) → (t ≡ false → OfReading x) → Each (check t x)
+each-check : (t : Bool) (x : Fault) → (t ≡ false → OfSections x) → Each (check t x)
 each-check true x h s = tt
 each-check false x h s = h refl
 
@@ -160,7 +165,7 @@ each-array =
     number-then 4 _ λ n.
     number-then 2 _ λ e.
     number-then 4 _ λ w.
-    each-then (check (strideFits k e w) (invalidArrayStride k w)) _ (each-check (strideFits k e w) (invalidArrayStride k w) (λ z. of.stride k w)) λ u s. tt
+    each-then (check (strideFits k e w) (invalidArrayStride k w)) _ (each-check (strideFits k e w) (invalidArrayStride k w) (of.stride k e w)) λ u s. tt
 
 each-userFb : Each userFb
 unfolding userFb
@@ -216,21 +221,21 @@ each-code n = each-then (many n function) _ (each-many n function each-function)
 
 -- Reading
 
-item-only : {A : Type 0} (x : Read A) → Fair x → Only OfReading (itemOf x)
+item-only : {A : Type 0} (x : Read A) → Fair x → Only OfSections (itemOf x)
 item-only (fault f) h = h
 item-only (got a s) h = tt
 
-section-only : (f : List ℕ) (p : Place) → Only OfReading (sectionIn f p)
+section-only : (f : List ℕ) (p : Place) → Only OfSections (sectionIn f p)
 unfolding sectionIn
-section-only f p = only-then OfReading _ (need (isInside f p) _) (only-need OfReading (isInside f p) _ of.place) (λ u. tt)
+section-only f p = only-then OfSections _ (need (isInside f p) _) (only-need OfSections (isInside f p) _ of.place) (λ u. tt)
 
-read-only : {A : Type 0} (f : List ℕ) (p : Place) (r : Reader A) → Each r → Only OfReading (readIn f p r)
+read-only : {A : Type 0} (f : List ℕ) (p : Place) (r : Reader A) → Each r → Only OfSections (readIn f p r)
 unfolding readIn
-read-only f p r h = only-then OfReading _ (sectionIn f p) (section-only f p) (λ s. item-only (r s) (h s))
+read-only f p r h = only-then OfSections _ (sectionIn f p) (section-only f p) (λ s. item-only (r s) (h s))
 
 hashed-only : (f : List ℕ) (p : Place) → Only OfReading (hashedIn f p)
 unfolding hashedIn
-hashed-only f p = only-cond OfReading (eqb (p .size) 0) (found []) (sectionIn f p) tt (section-only f p)
+hashed-only f p = only-cond OfReading (eqb (p .size) 0) (found []) (sectionIn f p) tt (to-reading (sectionIn f p) (section-only f p))
 
 content-only : (hash : List ℕ → List ℕ) (f : List ℕ) (h : Header) → Only OfReading (contentFits hash f h)
 unfolding contentFits hashedString
@@ -246,7 +251,7 @@ content-only hash f h =
 header-only : (f : List ℕ) → Only OfReading (headerOf f)
 unfolding headerOf
 header-only f =
-    only-then OfReading _ (need (leb 256 (length f)) shortInput) (only-need OfReading (leb 256 (length f)) shortInput of.short) λ a.
+    only-then OfReading _ (need (leb 256 (length f)) shortInput) (only-need OfReading (leb 256 (length f)) shortInput (OfReading.section of.short)) λ a.
     only-then OfReading _ (need (eqb (leAt 4 f 0) 0x49504C43) invalidMagic) (only-need OfReading (eqb (leAt 4 f 0) 0x49504C43) invalidMagic of.magic) λ b.
     only-then OfReading _ (need (eqb (leAt 2 f 4) 4) unsupportedVersion) (only-need OfReading (eqb (leAt 2 f 4) 4) unsupportedVersion of.version) λ c. tt
 
@@ -254,27 +259,31 @@ types-only : (f : List ℕ) (h : Header) → Only OfReading (typesFound f h)
 unfolding typesFound
 types-only f h =
     only-cond OfReading (hasTypes f h) _ (found none)
-    (only-then OfReading (λ t. found (some t)) (itemOf (typeTables (cut f (h .directory .types)))) (item-only (typeTables (cut f (h .directory .types))) (each-types (cut f (h .directory .types)))) (λ t. tt)) tt
+    (only-then OfReading (λ t. found (some t)) (itemOf (typeTables (cut f (h .directory .types))))
+    (to-reading (itemOf (typeTables (cut f (h .directory .types)))) (item-only (typeTables (cut f (h .directory .types))) (each-types (cut f (h .directory .types))))) (λ t. tt)) tt
 
 loading : (hash : List ℕ → List ℕ) (f : List ℕ) → Only OfReading (load hash f)
 unfolding load
 loading hash f =
-    only-then OfReading _ (need (leb (length f) limit) tooLong) (only-need OfReading (leb (length f) limit) tooLong of.too-long) λ a.
+    only-then OfReading _ (need (leb (length f) limit) tooLong) (only-need OfReading (leb (length f) limit) tooLong (OfReading.section of.too-long)) λ a.
     only-then OfReading _ (headerOf f) (header-only f) λ h.
     only-then OfReading _ (contentFits hash f h) (content-only hash f h) λ b.
-    only-then OfReading _ (readIn f (h .directory .tasks) taskTable) (read-only f (h .directory .tasks) taskTable each-tasks) λ ts.
+    only-then OfReading _ (readIn f (h .directory .tasks) taskTable)
+    (to-reading (readIn f (h .directory .tasks) taskTable) (read-only f (h .directory .tasks) taskTable each-tasks)) λ ts.
     only-then OfReading _ (typesFound f h) (types-only f h) λ ys.
-    only-then OfReading _ (readIn f (h .directory .constants) (constants byBytes)) (read-only f (h .directory .constants) (constants byBytes) (each-constants byBytes)) λ cs.
-    only-then OfReading _ (readIn f (h .directory .code) (codeOf (h .runtime .functions))) (read-only f (h .directory .code) (codeOf (h .runtime .functions)) (each-code (h .runtime .functions))) λ k. tt
+    only-then OfReading _ (readIn f (h .directory .constants) (constants byBytes))
+    (to-reading (readIn f (h .directory .constants) (constants byBytes)) (read-only f (h .directory .constants) (constants byBytes) (each-constants byBytes))) λ cs.
+    only-then OfReading _ (readIn f (h .directory .code) (codeOf (h .runtime .functions)))
+    (to-reading (readIn f (h .directory .code) (codeOf (h .runtime .functions))) (read-only f (h .directory .code) (codeOf (h .runtime .functions)) (each-code (h .runtime .functions)))) λ k. tt
 
 -- Lookups: the section first
 
 limit-only : (f : List ℕ) → Only OfLookups (need (leb (length f) limit) tooLong)
-limit-only f = only-need OfLookups (leb (length f) limit) tooLong (of.reading of.too-long)
+limit-only f = only-need OfLookups (leb (length f) limit) tooLong (OfLookups.section of.too-long)
 
 at-only : {A : Type 0} (f : List ℕ) (p : Place) (r : Reader A) → Each r → Only OfLookups (readAt f p r)
 unfolding readAt
-at-only f p r h = only-then OfLookups _ (need (leb (length f) limit) tooLong) (limit-only f) (λ u. only-more (readIn f p r) (read-only f p r h))
+at-only f p r h = only-then OfLookups _ (need (leb (length f) limit) tooLong) (limit-only f) (λ u. to-lookups (readIn f p r) (read-only f p r h))
 
 types-by-only : (f : List ℕ) (p : Place) (t : Option TypeCounts) → Only OfLookups (typesBy f p t)
 types-by-only f p none = only-then OfLookups _ (need (leb (length f) limit) tooLong) (limit-only f) (λ u. of.no-array)
@@ -311,17 +320,17 @@ module _ {T : Type 0} where
 
   number-only : (kind width stored : ℕ) (k : Kept T) → Only OfLookups (numberIn kind width stored k)
   number-only kind width stored (kept.number b) =
-      only-cond OfLookups (eqb stored kind) (found _) (refused (invalidConstantType stored)) tt (of.reading (of.constant-type stored))
-  number-only kind width stored (kept.string t) = of.reading (of.constant-type stored)
+      only-cond OfLookups (eqb stored kind) (found _) (refused (invalidConstantType stored)) tt (OfLookups.section (of.constant-type stored))
+  number-only kind width stored (kept.string t) = OfLookups.section (of.constant-type stored)
 
   string-only : (stored : ℕ) (k : Kept T) → Only OfLookups (stringIn stored k)
-  string-only stored (kept.number b) = of.reading (of.constant-type stored)
+  string-only stored (kept.number b) = OfLookups.section (of.constant-type stored)
   string-only stored (kept.string t) = tt
 
   width-only : (c : Constant T) → Only OfLookups (charWidth c)
   width-only c =
       only-cond OfLookups (eqb (c .kind) 6) (found 1) (cond (eqb (c .kind) 7) (found 2) (refused (invalidConstantType (c .kind)))) tt
-      (only-cond OfLookups (eqb (c .kind) 7) (found 2) (refused (invalidConstantType (c .kind))) tt (of.reading (of.constant-type (c .kind))))
+      (only-cond OfLookups (eqb (c .kind) 7) (found 2) (refused (invalidConstantType (c .kind))) tt (OfLookups.section (of.constant-type (c .kind))))
 
   numbers-only : (kind width i : ℕ) (l : List (Constant T)) → Only OfLookups (numberOf kind width i l)
   numbers-only kind width i l = constant-only i (asNumber kind width) (λ c. number-only kind width (c .kind) (c .kept)) l

@@ -7,16 +7,16 @@ use mathlib.Core.Option.{some}
 use lib.IntN.{ℤ, pos}
 use Rattle.utf8.specs.Utf8.{utf8}
 use Rattle.reading.specs.Answer.{Got, refused, found, _>>=_, itemOf}
-use Rattle.format.specs.Faults.{invalidArrayStride, invalidConstantIndex, invalidConstantType, sizeOverflow, noLine}
+use Rattle.format.specs.Faults.{invalidArrayStride, invalidConstantIndex, invalidConstantType, sizeOverflow, noLine, noEntry}
 use Rattle.format.specs.Parts.{byBytes}
 use Rattle.format.specs.Types.{Array, array, naturalStride, typeTables}
-use Rattle.format.specs.Constants.{constants, signed}
+use Rattle.format.specs.Constants.{constants}
 use Rattle.format.specs.Debug.{noTables}
 use Rattle.format.specs.Lines.{lineFor}
 use Rattle.format.specs.Load.{debugOf}
 use Rattle.format.specs.Record.{readFrom}
-use Rattle.format.specs.Lookups.{byteSize, numberOf, runAnswers}
-use Rattle.format.specs.Examples.{mill, millWith, lineAt, lastLine}
+use Rattle.format.specs.Lookups.{byteSize, runAnswersOf, runAnswers}
+use Rattle.format.specs.Examples.{lines, mill, millWith, linesTwice, lineAt, lastLine}
 
 -- an array of type 0 with so many elements, at stride 8
 abbrev pub slots : ℕ → Array
@@ -31,10 +31,10 @@ abbrev pub pool : ℕ → List ℕ
 pool size = 1 ∷ 0 ∷ 0 ∷ 1 ∷ size ∷ 0 ∷ 0x0E ∷ 0x01 ∷ []
 
 abbrev pub i32In : List ℕ → ℕ → Got ℤ
-i32In section i = itemOf (constants byBytes section) >>= numberOf 0 4 i >>= λ n. found (signed 2147483648 n)
+i32In section i = runAnswersOf byBytes (refused noEntry) (refused noEntry) (itemOf (constants byBytes section)) (refused noEntry) .i32 i
 
 pub record Cases (hash : List ℕ → List ℕ) : Type 0 where
-  pub strides : (naturalStride 6 10 ≡ 16) × (naturalStride 7 10 ≡ 26) × (naturalStride 0 10 ≡ 8) × (naturalStride 7 65535 ≡ 131076)
+  pub strides : (naturalStride 6 10 ≡ 16) × (naturalStride 7 10 ≡ 26) × ((extra : ℕ) → naturalStride 0 extra ≡ 8) × (naturalStride 7 65535 ≡ 131076)
   pub stride-15 : itemOf (array (stringArray 15)) ≡ refused (invalidArrayStride 6 15)
   pub stride-17 : itemOf (array (stringArray 17)) ≡ found (record { kind = 6; elements = 3; extra = 10; stride = 17 })
   pub index-0 : i32In (pool 2) 0 ≡ found (pos 270)
@@ -53,11 +53,11 @@ pub record Cases (hash : List ℕ → List ℕ) : Type 0 where
 -- what the four wrong turns would answer otherwise
 pub record WrongTurns (hash : List ℕ → List ℕ) : Type 0 where
   -- M with the debug flag clear still has its lines
-  pub flag-not-asked : lineAt hash (millWith 4 0 32) 0 3 ≡ found lastLine
-  -- M whose row says that its lines have 7 bytes reads as M does
-  pub row-size-ignored : lineAt hash (millWith 6 0 7) 0 3 ≡ found lastLine
+  pub flag-not-asked : lineAt hash (millWith 4 0 lines) 0 3 ≡ found lastLine
+  -- M's lines behind an empty table of lines whose row says 7 bytes: that table has the two bytes of its count
+  pub row-size-ignored : lineAt hash (millWith 6 0 linesTwice) 0 3 ≡ found lastLine
   -- M with 7 as the stored id of its function: the function is found at 0
-  pub stored-id-ignored : (readFrom hash (millWith 6 7 32) >>= λ r. runAnswers (millWith 6 7 32) r .function 0)
+  pub stored-id-ignored : (readFrom hash (millWith 6 7 lines) >>= λ r. runAnswers (millWith 6 7 lines) r .function 0)
       ≡ found (record { id = 7; offset = 0; size = 5; maxStackDepth = 8; locals = 2; parameters = 0 })
   -- of M's two lines at offset 3 the last is answered
   pub last-of-equals : lineAt hash mill 0 3 ≡ found lastLine

@@ -7,14 +7,18 @@ use Rattle.format.specs.RunSide.{Premises, RunSideIndependence, RunSideO
 use Rattle.format.specs.UnknownTables.{UnknownTables, UnknownTablesOfRecords}
 use Rattle.format.specs.Order.{Order}
 use Rattle.format.specs.Refusals.{Refusals}
+use Rattle.format.specs.Debug.{Line}
+use Rattle.format.specs.LineFound.{LineFound}
 use Rattle.format.specs.Examples.{FirstHalfSpeaks, TypesPremiseNeeded, EmptyCodePlaceNeeded, ContentHashNeeded, SecondHalfSpeaks}
 use Rattle.format.specs.Cases.{Cases, WrongTurns}
+use Rattle.format.specs.Layouts.{Layouts, MillCounts, HashLimit}
 
 pub record Claims (hash : List ℕ → List ℕ) : Type 0 where
   pub refusals : Refusals hash
   pub order : Order
   pub places-hold : (f : List ℕ) (r : Container) → PlacesHold f r
   pub own-record : OwnRecord hash
+  pub line-found : (function query : ℕ) (es : List Line) → LineFound function query es
   pub premises : Premises
   pub run-side-independence : RunSideIndependence hash
   pub run-side-of-records : RunSideOfRecords hash
@@ -23,10 +27,13 @@ pub record Claims (hash : List ℕ → List ℕ) : Type 0 where
   pub first-half-speaks : FirstHalfSpeaks hash
   pub types-premise-needed : TypesPremiseNeeded hash
   pub empty-code-place-needed : EmptyCodePlaceNeeded hash
-  pub content-hash-needed : ContentHashNeeded
+  pub content-hash-needed : ContentHashNeeded hash
   pub second-half-speaks : SecondHalfSpeaks hash
   pub cases : Cases hash
   pub wrong-turns : WrongTurns hash
+  pub layouts : Layouts
+  pub mill-counts : MillCounts hash
+  pub hash-limit : HashLimit
 
 abbrev pub AllClaims : Type 0
 AllClaims = (hash : List ℕ → List ℕ) → Claims hash

@@ -11,7 +11,7 @@ use Rattle.reading.specs.Answer.{Got, refused, found}
 use Rattle.format.specs.Faults.{invalidConstantType}
 use Rattle.format.specs.Parts.{Keep}
 
--- types 0 to 5 are numbers, 6 and 7 strings
+-- types 0 to 7 are I32, U32, I64, U64, F32, F64, Str and WStr: 0 to 5 are numbers, 6 and 7 strings
 abbrev pub isNumber : ℕ → Bool
 isNumber kind = leb kind 5
 

@@ -2,12 +2,13 @@
 -- and the premises on types, on the place of empty code and on the content hash are needed.
 use Prim.Native.Nat.{ℕ, _/_, _%_, _≤_}
 use mathlib.Core.Path.{_≡_}
+use mathlib.Core.Bool.{false}
 use mathlib.Core.List.{List, [], _∷_, _++_}
 use lib.IntN.{ℤ, pos}
 use lib.ListN.{length, replicate}
 use Rattle.reading.specs.Answer.{Got, refused, found, _>>=_}
 use Rattle.format.specs.Faults.{sectionSizeMismatch, contentHashMismatch, noArray}
-use Rattle.format.specs.Parts.{limit, part, Inside}
+use Rattle.format.specs.Parts.{limit, part, cut, Inside, same}
 use Rattle.format.specs.Header.{directoryOf}
 use Rattle.format.specs.Types.{Array}
 use Rattle.format.specs.Debug.{Line}
@@ -48,7 +49,7 @@ constants = 2 ∷ 0 ∷ 0 ∷ 0 ∷ 4 ∷ 0 ∷ 0x0E ∷ 0x01 ∷ 0 ∷ 0 ∷ 6 
 abbrev pub codeWith : ℕ → List ℕ
 codeWith id = id ∷ 0 ∷ 0 ∷ 0 ∷ 0 ∷ 0 ∷ 5 ∷ 0 ∷ 0 ∷ 0 ∷ 8 ∷ 0 ∷ 2 ∷ 0 ∷ 0 ∷ 0 ∷ replicate 5 0
 
--- the row of the lines, which says that their table has `size` bytes; it has 32
+-- the row of the lines, which says that their table has `size` bytes; the table has 32, and M says 0
 abbrev pub lineRow : ℕ → List ℕ
 lineRow size = 1 ∷ 0 ∷ 0 ∷ 0 ∷ size ∷ 0 ∷ 0 ∷ 0 ∷ []
 
@@ -59,15 +60,19 @@ lineTable =
     ∷ 0 ∷ 0 ∷ 3 ∷ 0 ∷ 0 ∷ 0 ∷ 2 ∷ 0 ∷ 5 ∷ 0
     ∷ 0 ∷ 0 ∷ 3 ∷ 0 ∷ 0 ∷ 0 ∷ 2 ∷ 0 ∷ 9 ∷ 0 ∷ []
 
--- M with other flags, another stored id of its function, or another size in the row of its lines
-abbrev pub millWith : ℕ → ℕ → ℕ → List ℕ
-millWith flags id size =
-    header flags zeroHash zeroHash (pair 310 16 ++ pair 256 54 ++ pair 326 16 ++ pair 342 21 ++ pair 363 42) 1
-    ++ tasks ++ types ++ constants ++ codeWith id ++ 1 ∷ 0 ∷ lineRow size ++ lineTable
+-- M with other flags, another stored id of its function, or another debug section
+abbrev pub millWith : ℕ → ℕ → List ℕ → List ℕ
+millWith flags id debug =
+    header flags zeroHash zeroHash (pair 310 16 ++ pair 256 54 ++ pair 326 16 ++ pair 342 21 ++ pair 363 (length debug)) 1
+    ++ tasks ++ types ++ constants ++ codeWith id ++ debug
+
+-- M's debug section: tag 1 only
+abbrev pub lines : List ℕ
+lines = 1 ∷ 0 ∷ lineRow 0 ++ lineTable
 
 -- M: 405 bytes
 abbrev pub mill : List ℕ
-mill = millWith 6 0 32
+mill = millWith 6 0 lines
 
 -- M without debug, its sections in another order behind three other bytes, with some debug hash: 366 bytes
 abbrev pub stripped : List ℕ
@@ -82,21 +87,30 @@ unknownRow = 5 ∷ 0 ∷ 0 ∷ 0 ∷ 3 ∷ 0 ∷ 0 ∷ 0 ∷ []
 abbrev pub unknownTable : List ℕ
 unknownTable = 7 ∷ 8 ∷ 9 ∷ []
 
+abbrev pub linesMore : List ℕ
+linesMore = 2 ∷ 0 ∷ unknownRow ++ lineRow 0 ++ unknownTable ++ lineTable
+
 abbrev pub millMore : List ℕ
-millMore =
-    header 6 zeroHash zeroHash (pair 310 16 ++ pair 256 54 ++ pair 326 16 ++ pair 342 21 ++ pair 363 53) 1
-    ++ tasks ++ types ++ constants ++ codeWith 0 ++ 2 ∷ 0 ∷ unknownRow ++ lineRow 32 ++ unknownTable ++ lineTable
+millMore = millWith 6 0 linesMore
 
--- unhashed, with types announced at 347, where the shorter file ends: they lie in the longer one only
-abbrev pub shorter : List ℕ
-shorter =
-    header 4 zeroHash zeroHash (pair 347 16 ++ pair 256 54 ++ pair 310 16 ++ pair 326 21 ++ pair 0 0) 1
-    ++ tasks ++ constants ++ codeWith 0
+-- M's lines behind an empty table of lines, whose row says 7 bytes
+abbrev pub linesTwice : List ℕ
+linesTwice = 2 ∷ 0 ∷ lineRow 7 ++ lineRow 0 ++ 0 ∷ 0 ∷ lineTable
 
-abbrev pub longer : List ℕ
-longer = shorter ++ types
+-- unhashed; the first has its types inside, the second before byte 256, in the reserved bytes 40 to 55, where both files hold them too
+abbrev pub typesAt : ℕ → List ℕ
+typesAt at =
+    0x43 ∷ 0x4C ∷ 0x50 ∷ 0x49 ∷ 4 ∷ 0 ∷ 0 ∷ 4 ∷ zeroHash ++ types ++ replicate 16 0 ++ zeroHash ++ replicate 32 0
+    ++ replicate 16 0 ++ pair at 16 ++ pair 256 54 ++ pair 310 16 ++ pair 326 21 ++ pair 0 0 ++ replicate 16 0 ++ 1 ∷ 0 ∷ replicate 46 0
+    ++ tasks ++ constants ++ codeWith 0 ++ types
 
--- the smallest file that loads: no tasks, types, constants, functions or debug, and its code of size 0 at the end: 264 bytes
+abbrev pub typesInside : List ℕ
+typesInside = typesAt 347
+
+abbrev pub typesBefore : List ℕ
+typesBefore = typesAt 40
+
+-- a small file that loads: no tasks, types, constants, functions or debug, and its code of size 0 where said; 264 bytes
 abbrev pub tinyWith : List ℕ → ℕ → List ℕ
 tinyWith contentHash codeAt =
     header 0 contentHash zeroHash (pair 0 0 ++ pair 256 6 ++ pair 262 2 ++ pair codeAt 0 ++ pair 0 0) 0 ++ replicate 8 0
@@ -138,16 +152,17 @@ pub record FirstHalfSpeaks (hash : List ℕ → List ℕ) : Type 0 where
 -- The premise that types lie inside both files is needed: all others hold here, and the array lookup differs
 
 pub record TypesPremiseNeeded (hash : List ℕ → List ℕ) : Type 0 where
-  pub limits : (length longer ≤ limit) × (length shorter ≤ limit)
-  pub headers : HeadersAgree longer shorter
-  pub tasks : SameSection longer (directoryOf longer .tasks) shorter (directoryOf shorter .tasks)
-  pub constants : SameSection longer (directoryOf longer .constants) shorter (directoryOf shorter .constants)
-  pub code : SameSection longer (directoryOf longer .code) shorter (directoryOf shorter .code)
-  pub types-sizes : directoryOf longer .types .size ≡ directoryOf shorter .types .size
-  pub types-in-first : Inside longer (directoryOf longer .types)
-  pub types-not-in-second : Inside shorter (directoryOf shorter .types) → ⊥
-  pub first-answer : firstArray hash longer ≡ found (record { kind = 6; elements = 3; extra = 10; stride = 16 })
-  pub second-answer : firstArray hash shorter ≡ refused noArray
+  pub limits : (length typesInside ≤ limit) × (length typesBefore ≤ limit)
+  pub headers : HeadersAgree typesInside typesBefore
+  pub tasks : SameSection typesInside (directoryOf typesInside .tasks) typesBefore (directoryOf typesBefore .tasks)
+  pub constants : SameSection typesInside (directoryOf typesInside .constants) typesBefore (directoryOf typesBefore .constants)
+  pub code : SameSection typesInside (directoryOf typesInside .code) typesBefore (directoryOf typesBefore .code)
+  pub types-sizes : directoryOf typesInside .types .size ≡ directoryOf typesBefore .types .size
+  pub types-bytes : cut typesInside (directoryOf typesInside .types) ≡ cut typesBefore (directoryOf typesBefore .types)
+  pub types-in-first : Inside typesInside (directoryOf typesInside .types)
+  pub types-not-in-second : Inside typesBefore (directoryOf typesBefore .types) → ⊥
+  pub first-answer : firstArray hash typesInside ≡ found (record { kind = 6; elements = 3; extra = 10; stride = 16 })
+  pub second-answer : firstArray hash typesBefore ≡ refused noArray
 
 -- The place is needed at size 0 too: a file with its code at 0 is refused with 4
 
@@ -162,9 +177,9 @@ pub record EmptyCodePlaceNeeded (hash : List ℕ → List ℕ) : Type 0 where
   pub first-loads : (l : Loaded) × (load hash tiny ≡ found l)
   pub second-refused : load hash displaced ≡ refused sectionSizeMismatch
 
--- The content hash must agree: with a hash function that never gives 32 ones, a file that carries these is refused with 5
+-- The content hash must agree: a file that carries 32 ones is refused with 5, unless the hash function gives these
 
-pub record ContentHashNeeded : Type 0 where
+pub record ContentHashNeeded (hash : List ℕ → List ℕ) : Type 0 where
   pub limits : (length tiny ≤ limit) × (length hashed ≤ limit)
   pub up-to-7 : part 0 8 tiny ≡ part 0 8 hashed
   pub from-40-to-135 : part 40 96 tiny ≡ part 40 96 hashed
@@ -173,8 +188,8 @@ pub record ContentHashNeeded : Type 0 where
   pub types : SameTypes tiny (directoryOf tiny .types) hashed (directoryOf hashed .types)
   pub constants : SameSection tiny (directoryOf tiny .constants) hashed (directoryOf hashed .constants)
   pub code : SameSection tiny (directoryOf tiny .code) hashed (directoryOf hashed .code)
-  pub first-loads : (l : Loaded) × (load (λ _. []) tiny ≡ found l)
-  pub second-refused : load (λ _. []) hashed ≡ refused contentHashMismatch
+  pub first-loads : (l : Loaded) × (load hash tiny ≡ found l)
+  pub second-refused : ((s : List ℕ) → same (hash s) (replicate 32 1) ≡ false) → load hash hashed ≡ refused contentHashMismatch
 
 -- The second half speaks of some files: M, and M with an unknown table added
 

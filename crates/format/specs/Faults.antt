@@ -3,8 +3,7 @@ use Prim.Native.Nat.{ℕ}
 use mathlib.Core.List.{[], _∷_}
 use Rattle.reading.specs.Fault.{Fault, refusal}
 
-abbrev pub shortInput : Fault
-shortInput = refusal 1 []
+-- 1, `shortInput`, is the reading algebra's
 
 abbrev pub invalidMagic : Fault
 invalidMagic = refusal 2 []

@@ -4,9 +4,10 @@ use mathlib.Core.Bool.{Bool}
 use mathlib.Core.List.{List}
 use lib.Dec.{leb, eqb}
 use lib.ListN.{length}
+use Rattle.reading.specs.Fault.{shortInput}
 use Rattle.reading.specs.Numbers.{leAt}
 use Rattle.reading.specs.Answer.{Got, found, _>>=_, _>>_, need}
-use Rattle.format.specs.Faults.{shortInput, invalidMagic, unsupportedVersion}
+use Rattle.format.specs.Faults.{invalidMagic, unsupportedVersion}
 use Rattle.format.specs.Parts.{part, Place}
 
 -- the seven pairs of offset and size

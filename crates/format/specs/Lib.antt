@@ -17,6 +17,8 @@ pub mod UnknownTables
 pub mod OwnRecord
 pub mod Order
 pub mod Refusals
+pub mod LineFound
 pub mod Examples
 pub mod Cases
+pub mod Layouts
 pub mod Claims

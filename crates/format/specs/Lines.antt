@@ -8,7 +8,7 @@ use Rattle.reading.specs.Answer.{Got, _>>_, need, present}
 use Rattle.format.specs.Faults.{noLine, unsortedMap}
 use Rattle.format.specs.Debug.{Line}
 
--- the map is sorted if pairs (function, offset) never fall
+-- Document 01's "sorted": pairs (function, offset) never fall
 
 abbrev pub inOrder : Line → Line → Bool
 inOrder a b = ltb (a .function) (b .function) || (eqb (a .function) (b .function) && leb (a .offset) (b .offset))
@@ -18,7 +18,7 @@ sorted [] = true
 sorted (a ∷ []) = true
 sorted (a ∷ b ∷ es) = inOrder a b && sorted (b ∷ es)
 
--- the last entry of the asked function whose offset is greatest among those not above the query
+-- The last entry of the asked function whose offset is greatest among those not above the query
 
 abbrev pub candidate : ℕ → ℕ → Line → Bool
 candidate function query e = eqb (e .function) function && leb (e .offset) query

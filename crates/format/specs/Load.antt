@@ -50,8 +50,8 @@ debugSized h = ltb 0 (h .directory .debug .size)
 abbrev pub debugInside : List ℕ → Header → Bool
 debugInside f h = isInside f (h .directory .debug)
 
-abbrev pub debugHashed : (List ℕ → List ℕ) → List ℕ → Header → Bool
-debugHashed hash f h = debugHashFits hash (h .debugHash) (cut f (h .directory .debug))
+abbrev pub debugHashRight : (List ℕ → List ℕ) → List ℕ → Header → Bool
+debugHashRight hash f h = debugHashFits hash (h .debugHash) (cut f (h .directory .debug))
 
 -- what was read, or none where the section is unreadable
 abbrev pub readable : {A : Type 0} → Read A → Option A
@@ -64,7 +64,7 @@ debugOf section = readable (debugTables byBytes section)
 unfoldable pub debugFound : (List ℕ → List ℕ) → List ℕ → Header → Option (Tables (List ℕ))
 debugFound hash f h =
     let read = debugOf (cut f (h .directory .debug)) in
-    cond (debugSized h && debugInside f h && debugHashed hash f h) read none
+    cond (debugSized h && debugInside f h && debugHashRight hash f h) read none
 
 -- The file: length, header, content hash, tasks, types, constants, code, debug; the first fault met decides
 

@@ -32,7 +32,7 @@ readAt f p r = do
 abbrev pub tasksIn : List ℕ → Container → Got TaskTable
 tasksIn f r = readAt f (r .header .directory .tasks) taskTable
 
--- `t` is what the record says of types
+-- by what the record says of types: absence gives 16
 abbrev pub typesBy : List ℕ → Place → Option TypeCounts → Got TypeTables
 typesBy f p none = need (leb (length f) limit) tooLong >> refused noArray
 typesBy f p (some counts) = readAt f p typeTables

@@ -1,4 +1,4 @@
--- What the answers over a file and a record are: the places in them are those of the bytes that the tables hold; and over a file and the
+-- What the answers over a file and a record are: at the places in them stand the bytes that the tables hold; and over a file and the
 -- record read from it, every lookup is indexing into what was loaded.
 use Prim.Native.Nat.{ℕ}
 use mathlib.Core.Path.{_≡_}
@@ -10,7 +10,7 @@ use Rattle.format.specs.Load.{Loaded, load}
 use Rattle.format.specs.Record.{Container, recordOf}
 use Rattle.format.specs.Lookups.{tasksIn, typesIn, constantsIn, codeIn, debugIn, runAnswersOf, debugAnswersOf, runAnswers, debugAnswers, runByBytes, debugByBytes}
 
--- over any file and record: the bytes at the answered places are the strings, bytecode, names and paths themselves
+-- over any file and record: the bytes at the answered places are those of the strings, bytecode, names and paths
 pub record PlacesHold (f : List ℕ) (r : Container) : Type 0 where
   pub run : runByBytes f (runAnswers f r) ≡ runAnswersOf byBytes (tasksIn f r) (typesIn f r) (constantsIn (λ p. byBytes) f r) (codeIn f r)
   pub debug : debugByBytes f (debugAnswers f r) ≡ debugAnswersOf (debugIn (λ p. byBytes) f r)

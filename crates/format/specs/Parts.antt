@@ -9,6 +9,10 @@ use lib.ListN.{length, take, drop}
 abbrev pub limit : ℕ
 limit = 65536
 
+-- the most bytes that the hash is asked for alone
+abbrev pub hashLimit : ℕ
+hashLimit = 261376
+
 -- `size` bytes from the place `at` on
 abbrev pub part : ℕ → ℕ → List ℕ → List ℕ
 part at size f = take size (drop at f)

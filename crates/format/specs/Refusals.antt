@@ -1,31 +1,38 @@
 -- Demand 1 of the definitions: a file loads or is refused by document 01's table, and so does every lookup on any file, record and index.
 use Prim.Native.Nat.{ℕ, _<_}
+use mathlib.Core.Bool.{false}
+use mathlib.Core.Path.{_≡_}
 use mathlib.Core.List.{List}
-use Rattle.reading.specs.Fault.{Fault}
+use Rattle.reading.specs.Fault.{Fault, shortInput}
 use Rattle.reading.specs.Answer.{Got, refused, found}
-use Rattle.format.specs.Faults.{shortInput, invalidMagic, unsupportedVersion, sectionSizeMismatch, contentHashMismatch}
+use Rattle.format.specs.Faults.{invalidMagic, unsupportedVersion, sectionSizeMismatch, contentHashMismatch}
 use Rattle.format.specs.Faults.{invalidTaskType, invalidFieldType, invalidArrayStride, invalidConstantType, tooLong, invalidConstantIndex}
 use Rattle.format.specs.Faults.{noFunction, noLine, unsortedMap, noDebug, noArray, sizeOverflow, noEntry}
+use Rattle.format.specs.Types.{strideFits}
 use Rattle.format.specs.Load.{load}
 use Rattle.format.specs.Record.{Container}
 use Rattle.format.specs.Lookups.{RunAnswers, DebugAnswers, runAnswers, debugAnswers}
 
--- the refusals of reading
+-- the refusals of a section that is read alone
+pub data OfSections : Fault → Type 0 where
+  too-long : OfSections tooLong
+  short : OfSections shortInput
+  place : OfSections sectionSizeMismatch
+  task-type : (kind : ℕ) → 2 < kind → OfSections (invalidTaskType kind)
+  field-type : (kind : ℕ) → 10 < kind → OfSections (invalidFieldType kind)
+  stride : (kind extra stride : ℕ) → strideFits kind extra stride ≡ false → OfSections (invalidArrayStride kind stride)
+  constant-type : (kind : ℕ) → OfSections (invalidConstantType kind)
+
+-- those, and the refusals of header and hash: reading
 pub data OfReading : Fault → Type 0 where
-  too-long : OfReading tooLong
-  short : OfReading shortInput
+  section : {f : Fault} → OfSections f → OfReading f
   magic : OfReading invalidMagic
   version : OfReading unsupportedVersion
-  place : OfReading sectionSizeMismatch
   hash-unequal : OfReading contentHashMismatch
-  task-type : (kind : ℕ) → 2 < kind → OfReading (invalidTaskType kind)
-  field-type : (kind : ℕ) → 10 < kind → OfReading (invalidFieldType kind)
-  stride : (kind stride : ℕ) → OfReading (invalidArrayStride kind stride)
-  constant-type : (kind : ℕ) → OfReading (invalidConstantType kind)
 
--- those, and the refusals of lookups
+-- those of sections, and the refusals of lookups
 pub data OfLookups : Fault → Type 0 where
-  reading : {f : Fault} → OfReading f → OfLookups f
+  section : {f : Fault} → OfSections f → OfLookups f
   constant-index : (i : ℕ) → OfLookups (invalidConstantIndex i)
   no-function : OfLookups noFunction
   no-line : OfLookups noLine

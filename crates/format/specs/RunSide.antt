@@ -48,16 +48,16 @@ pub record SameRunSide (f g : List ℕ) : Type 0 where
   pub constants : SameSection f (directoryOf f .constants) g (directoryOf g .constants)
   pub code : SameSection f (directoryOf f .code) g (directoryOf g .code)
 
--- To agree byte by byte: of the 256 bytes all count but the debug hash, the directory, and byte 7, which has a line of its own
+-- To agree byte by byte: of the 256 bytes all are compared but the debug hash, the directory, and byte 7, which has a line of its own
 
-pub data Counts : ℕ → Type 0 where
-  identification : {i : ℕ} → i < 7 → Counts i
-  content-and-reserved : {i : ℕ} → 8 ≤ i → i < 72 → Counts i
-  layout : {i : ℕ} → 104 ≤ i → i < 136 → Counts i
-  runtime : {i : ℕ} → 192 ≤ i → i < 256 → Counts i
+pub data Compared : ℕ → Type 0 where
+  identification : {i : ℕ} → i < 7 → Compared i
+  content-and-reserved : {i : ℕ} → 8 ≤ i → i < 72 → Compared i
+  layout : {i : ℕ} → 104 ≤ i → i < 136 → Compared i
+  runtime : {i : ℕ} → 192 ≤ i → i < 256 → Compared i
 
 pub record BytesAgree (f g : List ℕ) : Type 0 where
-  pub bytes : (i : ℕ) → Counts i → getD f i 0 ≡ getD g i 0
+  pub bytes : (i : ℕ) → Compared i → getD f i 0 ≡ getD g i 0
   pub flags : withoutDebugBit (leAt 1 f 7) ≡ withoutDebugBit (leAt 1 g 7)
 
 -- the premises say that both files have a whole header; and for files that have one, to agree byte by byte is enough

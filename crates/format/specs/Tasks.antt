@@ -5,6 +5,7 @@ use lib.Dec.{leb}
 use Rattle.reading.specs.Reader.{Reader, _>>=_, _>>_, give, check, bytes, u8, u16, u64, many}
 use Rattle.format.specs.Faults.{invalidTaskType}
 
+-- a task; interval and watchdog are in microseconds
 pub record Task : Type 0 where
   pub id : ℕ
   pub priority : ℕ

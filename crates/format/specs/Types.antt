@@ -46,6 +46,7 @@ pub record Array : Type 0 where
 abbrev pub isString : ℕ → Bool
 isString kind = eqb kind 6 || eqb kind 7
 
+-- document 01's "natural stride"
 abbrev pub naturalStride : ℕ → ℕ → ℕ
 naturalStride kind extra = cond (eqb kind 6) (6 + extra) (cond (eqb kind 7) (6 + 2 * extra) 8)
 
@@ -64,7 +65,7 @@ array = do
   check (strideFits kind extra stride) (invalidArrayStride kind stride)
   give (record { kind = kind; elements = elements; extra = extra; stride = stride })
 
--- bytes to a character of a string element: 2 for wide strings, 1 for any other type
+-- bytes to a character of a string element, as the Rust has it: 2 for wide strings, 1 for any other type
 abbrev pub elementCharWidth : Array → ℕ
 elementCharWidth a = cond (eqb (a .kind) 7) 2 1
 
