@@ -11,7 +11,7 @@ use lib.Seq.{take-suc, take-all, getD-at, drop-nil}
 use Rattle.reading.specs.Numbers.{le, leAt}
 use Rattle.reading.proofs.Le.{le-take-fill}
 use Rattle.reading.proofs.Parts.{part-of-part}
-use Rattle.compression.specs.Word.{table, words, bytesOf}
+use Rattle.compression.specs.Word.{table, words}
 use Rattle.compression.specs.Compression.{compress}
 
 -- ---- tables
@@ -69,10 +69,6 @@ words-take b = table-ext _ _ 16 (λ i h. ap le (rw zero-add at (part-of-part b 0
 pub length-words : (b : List ℕ) → length (words b) ≡ 16
 unfolding words
 length-words b = length-table _ 16
-
-pub length-bytesOf : (w : List ℕ) → length (bytesOf w) ≡ 32
-unfolding bytesOf
-length-bytesOf w = length-table _ 32
 
 pub length-compress : (h m : List ℕ) (t len flags : ℕ) → length (compress h m t len flags) ≡ 8
 unfolding compress

@@ -1,7 +1,6 @@
 -- Words, numbers below 2 ^ 32, BLAKE3's operations on them, and the bytes that they stand for.
 use Prim.Native.Nat.{ℕ, zero, suc, _+_, _-_, _*_, _/_, _%_, _^_}
 use mathlib.Core.List.{List, [], _∷_, _++_}
-use lib.ListN.{getD}
 use lib.Bits.{bitXor}
 use Rattle.reading.specs.Numbers.{leAt}
 
@@ -23,11 +22,3 @@ table f (suc n) = table f n ++ (f n ∷ [])
 -- the 16 words of a block: four bytes each, low byte first; a block of fewer than 64 bytes has zeros behind its end
 unfoldable pub words : List ℕ → List ℕ
 words b = table (λ i. leAt 4 b (4 * i)) 16
-
--- the byte at place i of the words w, each word low byte first
-unfoldable pub byteAt : List ℕ → ℕ → ℕ
-byteAt w i = getD w (i / 4) 0 / 2 ^ (8 * (i % 4)) % 256
-
--- the 32 bytes of eight words
-unfoldable pub bytesOf : List ℕ → List ℕ
-bytesOf w = table (byteAt w) 32

@@ -287,17 +287,6 @@ pub fn words_of(b: [u8; 64]) -> [u32; 16]
     words_at(&b, 0)
 }
 
-// The bytes of eight words, each word low byte first.
-pub fn bytes_of(w: [u32; 8]) -> [u8; 32]
-    ensures { λ r. ⌜ r ≡ W.bytesOf w ⌝ }
-{
-    let mut b = [0u8; 32];
-    for i in 0..32usize {
-        b[i] = ((w[i / 4] >> (8 * (i % 4))) % 256) as u8;
-    }
-    b
-}
-
 // Two chaining values as the block of their parent.
 pub fn join(l: [u32; 8], r: [u32; 8]) -> [u32; 16]
     ensures { λ b. ⌜ b ≡ l ++ r ⌝ }

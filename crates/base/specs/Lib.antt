@@ -1,0 +1,4 @@
+pub mod Error
+pub mod Small
+pub mod Digest
+pub mod Section

@@ -1,0 +1,46 @@
+// Bytes to a character of a string.
+ghost use mathlib.Core.Path.{_≡_};
+ghost use Rattle.base.specs.Small.{byteWidth, isWide, charWidthFrom, charWidthOf};
+
+pub enum CharWidth {
+    // STRING: Latin-1, one byte to a character.
+    Narrow,
+    // WSTRING: UTF-16, two bytes to a code unit.
+    Wide,
+}
+
+// A byte taken for a width: the width, or the byte where it is neither 1 nor 2.
+pub enum CharWidthAnswer {
+    Invalid(u8),
+    Width(CharWidth),
+}
+
+impl CharWidth {
+    pub fn byte_width(self) -> u8
+        ensures { λ r. ⌜ r ≡ byteWidth self ⌝ }
+    {
+        match self {
+            CharWidth::Narrow => 1,
+            CharWidth::Wide => 2,
+        }
+    }
+
+    pub fn is_wide(self) -> bool
+        ensures { λ r. ⌜ r ≡ isWide self ⌝ }
+    {
+        match self {
+            CharWidth::Narrow => false,
+            CharWidth::Wide => true,
+        }
+    }
+
+    pub fn from_u8(value: u8) -> CharWidthAnswer
+        ensures { λ r. ⌜ charWidthFrom r ≡ charWidthOf value ⌝ }
+    {
+        match value {
+            1 => CharWidthAnswer::Width(CharWidth::Narrow),
+            2 => CharWidthAnswer::Width(CharWidth::Wide),
+            _ => CharWidthAnswer::Invalid(value),
+        }
+    }
+}

@@ -1,0 +1,73 @@
+// A section's part of the file, and other parts of it.
+use crate::error::ContainerError;
+ghost use mathlib.Core.Path.{_≡_};
+ghost use Rattle.base.specs.Section.{placeIn, partIn, bytesOf, partFrom, sectionPart};
+
+// The library's limit on a file.
+pub const FILE_LIMIT: usize = 65536;
+
+// The size of the header.
+pub const HEADER_SIZE: usize = 256;
+
+// Where the header says that a section lies; nothing vouches for it.
+pub struct Section {
+    pub offset: u32,
+    pub size: u32,
+}
+
+// A part of the file: `size` bytes from `offset` on.
+pub struct Part {
+    pub offset: usize,
+    pub size: usize,
+}
+
+// A refusal, or a part of the file.
+pub enum PartAnswer {
+    Refused(ContainerError),
+    Part(Part),
+}
+
+// Where reading goes on behind what was passed over.
+pub enum Walk {
+    Refused(ContainerError),
+    At(usize),
+}
+
+// The part of the file that a section is.
+pub fn section_part(file: &[u8], section: Section) -> PartAnswer
+    ensures { λ r. ⌜ partFrom r ≡ sectionPart (now (file .entry)) (placeIn section) ⌝ }
+{
+    if file.len() > FILE_LIMIT {
+        return PartAnswer::Refused(ContainerError::TooLong);
+    }
+    let start = section.offset as usize;
+    let length = section.size as usize;
+    if start < HEADER_SIZE {
+        return PartAnswer::Refused(ContainerError::SectionSizeMismatch);
+    }
+    if file.len() < start + length {
+        return PartAnswer::Refused(ContainerError::SectionSizeMismatch);
+    }
+    PartAnswer::Part(Part {
+        offset: start,
+        size: length,
+    })
+}
+
+impl Part {
+    // That part of the file; none of it where it does not lie in the file.
+    pub fn of(self, file: &[u8]) -> &[u8]
+        ensures { λ r. ⌜ now r ≡ bytesOf (now (file .entry)) (partIn self) ⌝ }
+    {
+        let start = self.offset;
+        let size = self.size;
+        if file.len() < start {
+            return &file[0..0];
+        }
+        if file.len() - start < size {
+            return &file[0..0];
+        }
+        let end = start + size;
+        &file[start..end]
+    }
+}
