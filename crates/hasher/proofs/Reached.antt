@@ -1,0 +1,187 @@
+-- What a state holds once bytes were fed, and that feeding keeps it so.
+use mathlib.Core.Path.{_≡_, refl, sym, ap, ap₂, _∙_}
+use mathlib.Core.List.{List, [], _∷_, _++_, append-assoc, append-nil}
+use Prim.Native.Nat.{ℕ, _+_, _*_, _-_, _%_, _^_, _≤_, _<_}
+use native.Mathlib.Nat.{zero-add}
+use native.Mathlib.Omega.{arith}
+use native.Mathlib.Decide.{decLt}
+use native.Mathlib.Numerals.{add-one}
+use lib.ListN.{length, set, length-append}
+use borrow.Author.Tests.{lt-ltb, le-ltb}
+use Rattle.compression.specs.Word.{words}
+use Rattle.compression.specs.Compression.{iv}
+use Rattle.compression.specs.Laws.{words-filled}
+use Rattle.hasher.specs.Hash.{valueOf, chunkOf, rootOf, hashWords}
+use Rattle.hasher.specs.Stack.{levels, under}
+use Rattle.hasher.specs.State.{start, nodeWith, nextBlock, nextChunk, chained, advanced, withRoom, absorbed, fed, finished}
+use Rattle.hasher.specs.declared.Hasher.{Hasher}
+use Rattle.hasher.proofs.Tree.{treeFrom, tree-deeper, waiting-none, under-waiting}
+use Rattle.hasher.proofs.Chunks.{chunk-blocks, chained-more, filled, filled-more}
+use Rattle.hasher.proofs.Places.{Waits, waits-more}
+
+-- The state h has taken in the bytes bs: the finished chunks fs, the blocks ds of the current chunk, and ps in the block.
+pub record Holds (h : Hasher) (bs : List ℕ) : Type 0 where
+  pub fs : List ℕ
+  pub ds : List ℕ
+  pub ps : List ℕ
+  pub bytes : bs ≡ fs ++ (ds ++ ps)
+  pub whole : length fs ≡ 1024 * h .chunks
+  pub taken : length ds ≡ 64 * h .blocks
+  pub held : length ps ≡ h .len
+  pub cv : h .cv ≡ chained (h .blocks) iv (h .chunks) 0 ds
+  pub block : h .block ≡ filled (h .len) ps
+  pub blocks : h .blocks ≤ 15
+  pub len : h .len ≤ 64
+  pub few : h .chunks < 2 ^ levels
+  pub stack : Waits (h .stack) fs
+
+-- And feeding left it so: the block has a byte, unless nothing was fed.
+pub record Reached (h : Hasher) (bs : List ℕ) : Type 0 where
+  pub holds : Holds h bs
+  pub some : 0 < h .blocks + h .chunks → 0 < h .len
+
+pub reached-start : Reached start []
+unfolding chained
+reached-start = record {
+  holds = record {
+    fs = [];
+    ds = [];
+    ps = [];
+    bytes = refl;
+    whole = refl;
+    taken = refl;
+    held = refl;
+    cv = refl;
+    block = refl;
+    blocks = omega arith;
+    len = omega arith;
+    few = omega arith;
+    stack = record { places = refl; bound = omega arith; values = sym (waiting-none levels 0) };
+  };
+  some = λ z. absurd (omega arith);
+}
+
+module _ (h : Hasher) (bs : List ℕ) (f : Holds h bs) where
+  -- the bytes of the current chunk
+  abbrev current : List ℕ
+  current = f .ds ++ f .ps
+
+  length-current : length current ≡ 64 * h .blocks + h .len
+  length-current = omega (arith, length-append (f .ds) (f .ps))
+
+  length-all : length bs ≡ 1024 * h .chunks + 64 * h .blocks + h .len
+  length-all = omega (arith, ap length (f .bytes), length-append (f .fs) current, length-current)
+
+  words-held : words (h .block) ≡ words (f .ps)
+  words-held = ap words (f .block) ∙ words-filled (f .ps) (64 - h .len)
+
+  -- the node of the current chunk
+  node-current : (0 < h .blocks → 0 < h .len) → nodeWith h (words (h .block)) (h .len) ≡ chunkOf (h .chunks) current
+  node-current p =
+      cc (
+        words-held,
+        zero-add (h .blocks),
+        chunk-blocks 15 (h .blocks) iv 0 (h .chunks) (f .ds) (f .ps) (f .blocks) (f .taken) (omega arith) (λ z. omega (arith, p z)),
+      )
+
+  -- a full block is taken in
+  holds-block : h .len ≡ 64 → h .blocks < 15 → Holds (nextBlock h (words (h .block))) bs
+  unfolding nextBlock
+  holds-block l k = record {
+    fs = f .fs;
+    ds = current;
+    ps = [];
+    bytes = f .bytes ∙ ap (λ (x : List ℕ). f .fs ++ x) (sym (append-nil current));
+    whole = f .whole;
+    taken = omega (arith, length-current);
+    held = refl;
+    cv = cc (words-held, zero-add (h .blocks), add-one (h .blocks), chained-more (h .blocks) iv (h .chunks) 0 (f .ds) (f .ps) (f .taken));
+    block = refl;
+    blocks = omega arith;
+    len = omega arith;
+    few = f .few;
+    stack = f .stack;
+  }
+
+  -- a full chunk is finished
+  holds-chunk : h .len ≡ 64 → h .blocks ≡ 15 → h .chunks + 1 < 2 ^ levels → Holds (nextChunk h (words (h .block))) bs
+  unfolding nextChunk chained
+  holds-chunk l k few =
+      let size : length current ≡ 1024 = omega (arith, length-current) in
+      let counted : (h .chunks + 1) % 2 ^ 64 ≡ h .chunks + 1 = omega arith in
+      let last : nodeWith h (words (h .block)) 64 ≡ chunkOf (h .chunks) current =
+      ap (nodeWith h (words (h .block))) (sym l) ∙ node-current (λ z. omega arith) in
+      record {
+        fs = f .fs ++ current;
+        ds = [];
+        ps = [];
+        bytes = f .bytes ∙ sym (append-nil (f .fs ++ current));
+        whole = omega (arith, length-append (f .fs) current);
+        taken = refl;
+        held = refl;
+        cv = refl;
+        block = refl;
+        blocks = omega arith;
+        len = omega arith;
+        few = omega arith;
+        stack = rw (counted, ap valueOf last) (waits-more (h .stack) (f .fs) (f .stack) (h .chunks) current (f .whole) few size);
+      }
+
+  -- more input follows
+  holds-room : length bs < 1024 * 2 ^ levels → Holds (withRoom h) bs × (withRoom h .len < 64)
+  unfolding withRoom advanced nextBlock nextChunk
+  holds-room size = elim (decLt (h .len) 64) [
+    | yes q ↦ rw (lt-ltb (h .len) 64 q) (f, q)
+    | no q ↦
+        let full : h .len ≡ 64 = omega arith in
+        rw (le-ltb (h .len) 64 (omega arith)) (elim (decLt (h .blocks) 15) [
+          | yes k ↦ rw (lt-ltb (h .blocks) 15 k) (holds-block full k, omega arith)
+          | no k ↦ rw (le-ltb (h .blocks) 15 (omega arith)) (holds-chunk full (omega arith) (omega (arith, length-all)), omega arith)
+        ])
+  ]
+
+  -- one more byte in the block
+  holds-byte : (b : ℕ) → h .len < 64
+      → Holds (record { cv = h .cv; block = set (h .block) (h .len) b; len = h .len + 1; blocks = h .blocks; stack = h .stack; chunks = h .chunks }) (bs ++ (b ∷ []))
+  holds-byte b l = record {
+    fs = f .fs;
+    ds = f .ds;
+    ps = f .ps ++ (b ∷ []);
+    bytes = rw (f .bytes) (simp append-assoc);
+    whole = f .whole;
+    taken = f .taken;
+    held = omega (arith, length-append (f .ps) (b ∷ []));
+    cv = f .cv;
+    block = ap (λ (x : List ℕ). set x (h .len) b) (f .block) ∙ filled-more (h .len) (f .ps) b (f .held) l;
+    blocks = f .blocks;
+    len = omega arith;
+    few = f .few;
+    stack = f .stack;
+  }
+
+-- one more byte
+reached-absorbed : (h : Hasher) (bs : List ℕ) (b : ℕ) → Holds h bs → length bs < 1024 * 2 ^ levels → Reached (absorbed h b) (bs ++ (b ∷ []))
+unfolding absorbed
+reached-absorbed h bs b f size =
+    let room = holds-room h bs f size in
+    record { holds = holds-byte (withRoom h) bs (room .0) b (room .1); some = λ z. omega arith }
+
+pub reached-fed : (h : Hasher) (bs cs : List ℕ) → Reached h bs → length bs + length cs ≤ 1024 * 2 ^ levels → Reached (fed h cs) (bs ++ cs)
+unfolding fed
+reached-fed h bs [] r size = rw append-nil r
+reached-fed h bs (c ∷ cs) r size =
+    rw append-assoc at
+    (reached-fed (absorbed h c) (bs ++ (c ∷ [])) cs (reached-absorbed h bs c (r .holds) (omega arith)) (omega (arith, length-append bs (c ∷ []))))
+
+-- finishing gives the digest
+pub reached-finished : (h : Hasher) (bs : List ℕ) → Reached h bs → finished h ≡ hashWords bs
+unfolding finished hashWords
+reached-finished h bs r =
+    let f = r .holds in
+    let cs = current h bs f in
+    let size = length-current h bs f in
+    ap rootOf
+    (ap₂ under (node-current h bs f (λ z. r .some (omega arith))) (f .stack .values)
+    ∙ rw zero-add at (under-waiting levels 0 (h .chunks) (f .fs) cs (f .whole) (f .few) (omega arith) (λ z. omega (arith, r .some (omega arith))))
+    ∙ ap (treeFrom levels 0) (sym (f .bytes))
+    ∙ sym (tree-deeper levels 54 0 bs (omega (arith, length-all h bs f)) (omega arith)))

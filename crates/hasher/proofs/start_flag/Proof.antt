@@ -1,0 +1,16 @@
+-- `hasher::start_flag` meets its contract. Assumes nothing.
+use mathlib.Core.Path.{sym}
+use Rattle.hasher.proofs.Feeding.{flag-later}
+use borrow.Author.Needs.{needs}
+use Rattle.hasher.proofs.start_flag.Statement.{statement}
+use Rattle.hasher.proofs.start_flag.Tie as tie
+
+returns-2 : tie.Need-returns-2
+returns-2 c = (sym (flag-later _ (c .if1 .left)), search needs)
+
+pub start-flag-spec : {M : Type 1} → statement M
+start-flag-spec =
+    tie.close
+    (tie.spec
+    (λ c. search needs)
+    returns-2)

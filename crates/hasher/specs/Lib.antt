@@ -1,0 +1,5 @@
+pub mod Tree
+pub mod Hash
+pub mod Stack
+pub mod State
+pub mod Laws

@@ -1,0 +1,86 @@
+-- What feeding and finishing make of every state, also of one that no feeding made.
+use mathlib.Core.Bool.{cond}
+use mathlib.Core.List.{List, [], _∷_}
+use Prim.Native.Nat.{ℕ, zero, suc, _+_, _%_, _^_}
+use lib.Dec.{ltb}
+use lib.ListN.{drop, set, replicate}
+use lib.Count.{trailingZeros}
+use Rattle.compression.specs.Word.{words}
+use Rattle.compression.specs.Compression.{iv, compress, chunkStart, chunkEnd}
+use Rattle.hasher.specs.Hash.{valueOf, rootOf}
+use Rattle.hasher.specs.Stack.{valuesOf, under, pushed}
+use Rattle.hasher.specs.declared.Node.{Node}
+use Rattle.hasher.specs.declared.Value.{Value}
+use Rattle.hasher.specs.declared.Hasher.{Hasher}
+
+abbrev pub noValue : Value
+noValue = record { words = replicate 8 0 }
+
+abbrev pub noBlock : List ℕ
+noBlock = replicate 64 0
+
+-- nothing was fed
+abbrev pub start : Hasher
+start = record { cv = iv; block = noBlock; len = 0; blocks = 0; stack = record { values = replicate 8 noValue; waiting = 0 }; chunks = 0 }
+
+-- CHUNK_START for the first block of a chunk
+abbrev pub startFlag : ℕ → ℕ
+startFlag zero = chunkStart
+startFlag (suc n) = 0
+
+-- the node of the current chunk, m being its last block, of n bytes
+abbrev pub nodeWith : Hasher → List ℕ → ℕ → Node
+nodeWith h m n = record { cv = h .cv; block = m; counter = h .chunks; len = n; flags = startFlag (h .blocks) + chunkEnd }
+
+-- the block m belongs to the current chunk, and the chunk has room for another
+unfoldable pub nextBlock : Hasher → List ℕ → Hasher
+nextBlock h m =
+    record {
+      cv = compress (h .cv) m (h .chunks) 64 (startFlag (h .blocks));
+      block = noBlock;
+      len = 0;
+      blocks = h .blocks + 1;
+      stack = h .stack;
+      chunks = h .chunks;
+    }
+
+-- the block m ends the current chunk: the chunk is finished, and waiting subtrees are joined as often as the finished chunk count has
+-- trailing zero bits
+unfoldable pub nextChunk : Hasher → List ℕ → Hasher
+nextChunk h m =
+    let chunks = (h .chunks + 1) % 2 ^ 64 in
+    record {
+      cv = iv;
+      block = noBlock;
+      len = 0;
+      blocks = 0;
+      stack = pushed (h .stack) (trailingZeros 64 chunks) (valueOf (nodeWith h m 64));
+      chunks = chunks;
+    }
+
+-- the chaining value behind n whole blocks of s, the first of them block number `blocks` of chunk t
+unfoldable pub chained : ℕ → List ℕ → ℕ → ℕ → List ℕ → List ℕ
+chained zero c t blocks s = c
+chained (suc n) c t blocks s = chained n (compress c (words s) t 64 (startFlag blocks)) t (blocks + 1) (drop 64 s)
+
+-- a chunk has 16 blocks
+unfoldable pub advanced : Hasher → List ℕ → Hasher
+advanced h m = cond (ltb (h .blocks) 15) (nextBlock h m) (nextChunk h m)
+
+-- more input follows: a full block is taken in
+unfoldable pub withRoom : Hasher → Hasher
+withRoom h = cond (ltb (h .len) 64) h (advanced h (words (h .block)))
+
+-- one more byte
+unfoldable pub absorbed : Hasher → ℕ → Hasher
+absorbed h b =
+    let r = withRoom h in
+    record { cv = r .cv; block = set (r .block) (r .len) b; len = r .len + 1; blocks = r .blocks; stack = r .stack; chunks = r .chunks }
+
+unfoldable pub fed : Hasher → List ℕ → Hasher
+fed h [] = h
+fed h (b ∷ bs) = fed (absorbed h b) bs
+
+-- the digest's words: the current chunk's node, joined with all that waits, the last join with the flag ROOT
+unfoldable pub finished : Hasher → List ℕ
+finished h = rootOf (under (nodeWith h (words (h .block)) (h .len)) (valuesOf (h .stack)))

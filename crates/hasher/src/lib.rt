@@ -1,0 +1,351 @@
+// BLAKE3's hash state: fed in any division into parts, and finished. No state is refused; `specs/State.antt` says what
+// every one becomes.
+ghost use mathlib.Core.Path.{_≡_};
+ghost use mathlib.Core.List.{List};
+ghost use Prim.Native.Nat.{ℕ, _+_, _*_, _%_, _^_, _<_, _≤_, min};
+ghost use lib.ListN.{length, drop};
+ghost use Rattle.compression.specs.Word.{words};
+ghost use Rattle.hasher.specs.Hash as B;
+ghost use Rattle.hasher.specs.Stack as S;
+ghost use Rattle.hasher.specs.State as T;
+ghost use Rattle.hasher.specs.Laws.{Laws};
+use compression::compress;
+use compression::iv;
+use compression::join;
+use compression::words_at;
+use compression::words_of;
+
+const BLOCK_LEN: usize = 64;
+
+// The most values that wait.
+const LEVELS: usize = 8;
+
+const CHUNK_START: u32 = 1;
+
+const CHUNK_END: u32 = 2;
+
+const PARENT: u32 = 4;
+
+const ROOT: u32 = 8;
+
+// An output that is not yet finalized: all that its compression takes but the flag ROOT.
+pub struct Node {
+    pub cv: [u32; 8],
+    pub block: [u32; 16],
+    pub counter: u64,
+    pub len: u32,
+    pub flags: u32,
+}
+
+// The chaining value of a finished subtree.
+pub struct Value {
+    pub words: [u32; 8],
+}
+
+// The values that wait to be joined, oldest first.
+pub struct Stack {
+    pub values: [Value; 8],
+    pub waiting: usize,
+}
+
+pub struct Hasher {
+    // The chaining value behind the blocks of the current chunk that were taken in.
+    pub cv: [u32; 8],
+    // The block that waits, and how many bytes it has.
+    pub block: [u8; 64],
+    pub len: u32,
+    // How many blocks of the current chunk were taken in.
+    pub blocks: u32,
+    pub stack: Stack,
+    // How many chunks are finished.
+    pub chunks: u64,
+}
+
+// A state, and how far the input was taken in.
+struct Step {
+    hasher: Hasher,
+    at: usize,
+}
+
+impl Node {
+    fn value(self) -> [u32; 8]
+        ensures { λ r. ⌜ r ≡ B.valueOf self ⌝ }
+    {
+        let cv = self.cv;
+        let block = self.block;
+        compress(cv, block, self.counter, self.len, self.flags)
+    }
+
+    fn root(self) -> [u32; 8]
+        requires { ⌜ self .flags < 8 ⌝ }
+        ensures { λ r. ⌜ r ≡ B.rootOf self ⌝ }
+    {
+        let cv = self.cv;
+        let block = self.block;
+        compress(cv, block, self.counter, self.len, self.flags + ROOT)
+    }
+}
+
+// The node above two subtrees.
+fn parent(left: [u32; 8], right: [u32; 8]) -> Node
+    ensures { λ r. ⌜ r ≡ B.parentOf left right ⌝ }
+{
+    let block = join(left, right);
+    let cv = iv();
+    Node {
+        cv: cv,
+        block: block,
+        counter: 0,
+        len: 64,
+        flags: PARENT,
+    }
+}
+
+fn least(a: usize, b: usize) -> usize
+    ensures { λ r. ⌜ r ≡ min a b ⌝ }
+{
+    if a < b { a } else { b }
+}
+
+impl Stack {
+    // `c` is joined with the newest values, as many as `joins`, and what comes of it is pushed.
+    fn push(self, joins: u32, c: [u32; 8]) -> Stack
+        ensures { λ r. ⌜ r ≡ S.pushed self joins c ⌝ }
+    {
+        let mut values = self.values;
+        let mut n = least(self.waiting, LEVELS);
+        let mut left = joins;
+        let mut v = c;
+        while 0 < left && 0 < n {
+            n -= 1;
+            left -= 1;
+            let older = values[n];
+            let l = older.words;
+            let node = parent(l, v);
+            let both = node.value();
+            v = both;
+        }
+        if n < LEVELS {
+            values[n] = Value { words: v };
+            return Stack {
+                values: values,
+                waiting: n + 1,
+            };
+        }
+        Stack {
+            values: values,
+            waiting: n,
+        }
+    }
+
+    // The root of the tree whose last chunk is `last`.
+    fn root(self, last: Node) -> Node
+        requires { ⌜ last .flags < 8 ⌝ }
+        ensures { λ r. ⌜ (r ≡ S.under last (S.valuesOf self)) × (r .flags < 8) ⌝ }
+    {
+        let values = self.values;
+        let mut n = least(self.waiting, LEVELS);
+        let mut node = last;
+        while 0 < n {
+            n -= 1;
+            let older = values[n];
+            let l = older.words;
+            let r = node.value();
+            let above = parent(l, r);
+            node = above;
+        }
+        node
+    }
+}
+
+fn start_flag(blocks: u32) -> u32
+    ensures { λ r. ⌜ (r ≡ T.startFlag blocks) × (r ≤ 1) ⌝ }
+{
+    if blocks == 0 { CHUNK_START } else { 0 }
+}
+
+// The finished chunk count once one more is finished.
+fn counted(chunks: u64) -> u64
+    ensures { λ r. ⌜ r ≡ (chunks + 1) % 2 ^ 64 ⌝ }
+{
+    std::num::wrapping_add_u64(chunks, 1)
+}
+
+// The chaining value behind `n` whole blocks of `s` from `at` on, the first of them block number `blocks` of chunk `t`.
+fn chain(cv: [u32; 8], s: &[u8], at: usize, n: usize, t: u64, blocks: u32) -> [u32; 8]
+    requires { ⌜ (at + 64 * n ≤ length (now s)) × (n + blocks ≤ 15) ⌝ }
+    ensures { λ r. ⌜ r ≡ T.chained n cv t blocks (drop at (now (s .entry))) ⌝ }
+{
+    let mut c = cv;
+    for i in 0..n {
+        let flag = start_flag(blocks + (i as u32));
+        let next = compress(c, words_at(s, at + BLOCK_LEN * i), t, 64, flag);
+        c = next;
+    }
+    c
+}
+
+impl Hasher {
+    pub fn new() -> Hasher
+        ensures { λ r. ⌜ r ≡ T.start ⌝ }
+    {
+        Hasher {
+            cv: iv(),
+            block: [0u8; 64],
+            len: 0,
+            blocks: 0,
+            stack: Stack {
+                values: [Value { words: [0u32; 8] }; 8],
+                waiting: 0,
+            },
+            chunks: 0,
+        }
+    }
+
+    // The number of the current chunk, as the compression takes it.
+    fn counter(self) -> u64
+        ensures { λ r. ⌜ r ≡ self .chunks ⌝ }
+    {
+        self.chunks
+    }
+
+    // The node of the current chunk, `block` being its last block, of `len` bytes.
+    fn node(self, block: [u32; 16], len: u32) -> Node
+        ensures { λ r. ⌜ (r ≡ T.nodeWith self block len) × (r .flags < 8) ⌝ }
+    {
+        let cv = self.cv;
+        Node {
+            cv: cv,
+            block: block,
+            counter: self.counter(),
+            len: len,
+            flags: start_flag(self.blocks) + CHUNK_END,
+        }
+    }
+
+    // The block belongs to the current chunk, which more input follows.
+    fn advance(self, block: [u32; 16]) -> Hasher
+        ensures { λ r. ⌜ r ≡ T.advanced self block ⌝ }
+    {
+        let stack = self.stack;
+        if self.blocks < 15 {
+            let cv = self.cv;
+            let next = compress(cv, block, self.counter(), 64, start_flag(self.blocks));
+            return Hasher {
+                cv: next,
+                block: [0u8; 64],
+                len: 0,
+                blocks: self.blocks + 1,
+                stack: stack,
+                chunks: self.chunks,
+            };
+        }
+        let last = self.node(block, 64);
+        let before = self.chunks;
+        let chunks = counted(before);
+        let joins = u64::trailing_zeros(chunks);
+        let pushed = stack.push(joins, last.value());
+        Hasher {
+            cv: iv(),
+            block: [0u8; 64],
+            len: 0,
+            blocks: 0,
+            stack: pushed,
+            chunks: chunks,
+        }
+    }
+
+    // More input follows: a full block is taken in.
+    fn with_room(self) -> Hasher
+        ensures { λ r. ⌜ (r ≡ T.withRoom self) × (r .len < 64) ⌝ }
+    {
+        if self.len < 64 {
+            return self;
+        }
+        let bytes = self.block;
+        self.advance(words_of(bytes))
+    }
+
+    // Whole blocks of `s` from `at` on, straight from the slice: as many as the current chunk has room for, or its last one.
+    // More input follows them.
+    fn take_blocks(self, s: &[u8], at: usize) -> Step
+        requires { ⌜ (self .len ≡ 0) × (at + 64 < length (now s)) ⌝ }
+        ensures { λ r. ⌜ (T.fed (r .hasher) (drop (r .at) (now (s .entry))) ≡ T.fed self (drop at (now (s .entry)))) × (at < r .at) × (r .at < length (now (s .entry))) ⌝ }
+    {
+        if self.blocks < 15 {
+            let n = least(15 - (self.blocks as usize), (s.len() - at - 1) / BLOCK_LEN);
+            let cv = self.cv;
+            let next = chain(cv, s, at, n, self.counter(), self.blocks);
+            let empty = [0u8; 64];
+            let mut h = self;
+            h.cv = next;
+            h.block = empty;
+            h.blocks = self.blocks + (n as u32);
+            return Step {
+                hasher: h,
+                at: at + BLOCK_LEN * n,
+            };
+        }
+        Step {
+            hasher: self.advance(words_at(s, at)),
+            at: at + BLOCK_LEN,
+        }
+    }
+
+    // The bytes of `part`, for which the block has room.
+    fn take_part(self, part: &[u8]) -> Hasher
+        requires { ⌜ self .len + length (now part) ≤ 64 ⌝ }
+        ensures { λ r. ⌜ r ≡ T.fed self (now (part .entry)) ⌝ }
+    {
+        let mut h = self;
+        let mut bytes = h.block;
+        let len = h.len as usize;
+        for i in 0..part.len() {
+            bytes[len + i] = part[i];
+        }
+        h.block = bytes;
+        h.len = h.len + (part.len() as u32);
+        h
+    }
+
+    // The state fed with the bytes of `s`.
+    pub fn update(self, s: &[u8]) -> Hasher
+        ensures { λ r. ⌜ r ≡ T.fed self (now (s .entry)) ⌝ }
+    {
+        let mut h = self;
+        let mut at = 0;
+        while at < s.len() {
+            let room = h.with_room();
+            let left = s.len() - at;
+            if room.len == 0 && BLOCK_LEN < left {
+                let step = room.take_blocks(s, at);
+                let next = step.hasher;
+                h = next;
+                at = step.at;
+            } else {
+                let n = least(BLOCK_LEN - (room.len as usize), left);
+                let end = at + n;
+                let next = room.take_part(&s[at..end]);
+                h = next;
+                at = end;
+            }
+        }
+        h
+    }
+
+    // The eight words of the digest of what was fed.
+    pub fn finish(self) -> [u32; 8]
+        ensures { λ r. ⌜ r ≡ T.finished self ⌝ }
+    {
+        let bytes = self.block;
+        let last = self.node(words_of(bytes), self.len);
+        let stack = self.stack;
+        let top = stack.root(last);
+        top.root()
+    }
+}
+
+// The claims of `specs/Laws.antt` hold. There is no code: the contract makes the check prove them.
+pub fn laws_hold()
+    ensures { λ _. ⌜ Laws ⌝ }
+{}
