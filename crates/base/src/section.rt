@@ -1,7 +1,8 @@
 // A section's part of the file, and other parts of it.
 use crate::error::ContainerError;
+use reading::Table;
 ghost use mathlib.Core.Path.{_≡_};
-ghost use Rattle.base.specs.Section.{placeIn, partIn, bytesOf, partFrom, sectionPart};
+ghost use Rattle.base.specs.Section.{placeIn, partIn, bytesOf, partFrom, PartWithin, sectionPart};
 
 // The library's limit on a file.
 pub const FILE_LIMIT: usize = 65536;
@@ -33,9 +34,21 @@ pub enum Walk {
     At(usize),
 }
 
+// Whether a section reads.
+pub enum Checked {
+    Refused(ContainerError),
+    Good,
+}
+
+// Where a walk over a table starts.
+pub enum StartAnswer {
+    Refused(ContainerError),
+    Start(Table),
+}
+
 // The part of the file that a section is.
 pub fn section_part(file: &[u8], section: Section) -> PartAnswer
-    ensures { λ r. ⌜ partFrom r ≡ sectionPart (now (file .entry)) (placeIn section) ⌝ }
+    ensures { λ r. ⌜ (partFrom r ≡ sectionPart (now (file .entry)) (placeIn section)) × PartWithin (now (file .entry)) r ⌝ }
 {
     if file.len() > FILE_LIMIT {
         return PartAnswer::Refused(ContainerError::TooLong);
