@@ -1,0 +1,41 @@
+-- `blake3::hash` meets its contract: over the limit the refusal, and otherwise the digest, by the hasher's law for an input fed in one part.
+use borrow.Author.Needs.{needs}
+use borrow.Author.Tests.{le-leb, lt-leb}
+use mathlib.Core.Path.{_≡_, ap, _∙_}
+use mathlib.Core.List.{List, [], _∷_, append-nil}
+use Prim.Native.Nat.{ℕ, _<_, _≤_}
+use native.Mathlib.Omega.{arith}
+use lib.ListN.{length}
+use Rattle.reading.specs.Numbers.{wordBytes}
+use Rattle.reading.specs.Answer.{refused, found}
+use Rattle.format.specs.Faults.{tooLong}
+use Rattle.format.specs.Parts.{hashLimit}
+use Rattle.hasher.specs.State.{start, fed, finished}
+use Rattle.hasher.proofs.Laws.{laws}
+use Rattle.blake3.specs.Blake3.{blake3, hashAsked}
+use Rattle.blake3.proofs.hash.Statement.{statement}
+use Rattle.blake3.proofs.hash.Tie as tie
+
+over : (bs : List ℕ) → hashLimit < length bs → refused tooLong ≡ hashAsked bs
+unfolding hashAsked
+over bs h = simp (lt-leb _ _ h)
+
+within : (bs : List ℕ) → length bs ≤ hashLimit → found (blake3 bs) ≡ hashAsked bs
+unfolding hashAsked
+within bs h = simp (le-leb _ _ h)
+
+-- an input fed in one part
+whole : (bs : List ℕ) → length bs ≤ hashLimit → wordBytes (finished (fed start bs)) ≡ blake3 bs
+whole bs h = ap wordBytes (rw append-nil at (laws .digest (bs ∷ []) (rw append-nil (omega arith))))
+
+returns : tie.Need-returns
+returns c = over _ (omega arith)
+
+returns-2 : tie.Need-returns-2
+returns-2 c =
+    let bs = c .before .before .before .before .before .args .bytes .now in
+    let h : length bs ≤ hashLimit = omega arith in
+    ap found (c .finish .ensures ∙ ap wordBytes (ap finished (cc)) ∙ whole bs h) ∙ within bs h
+
+pub hash-spec : {M : Type 1} → statement M
+hash-spec = tie.close (tie.spec returns (λ c κs. search needs) (λ c κs. search needs) (λ c κs. search needs) returns-2)

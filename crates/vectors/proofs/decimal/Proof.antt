@@ -1,0 +1,30 @@
+-- `vectors::decimal` is safe and ends: a number that is larger than any input's length is not taken further, and the measure is what is left of the line.
+use Prim.Native.Nat.{_-_}
+use lib.ListN.{length}
+use borrow.Author.Needs.{needs}
+use Rattle.vectors.proofs.decimal.Statement.{statement}
+use Rattle.vectors.proofs.decimal.Tie as tie
+
+abbrev Inv-loop : tie.InvT-loop
+Inv-loop s value₀ digits₀ value digits = Unit {0}
+
+abbrev μ-loop : tie.MeasureT-loop
+μ-loop s value₀ digits₀ value digits = length s - digits
+
+pub decimal-spec : {M : Type 1} → statement M
+decimal-spec =
+    tie.close
+    (tie.spec
+    Inv-loop
+    μ-loop
+    (λ c. search needs)
+    (λ c. search needs)
+    (λ c. search needs)
+    (λ c κs. search needs)
+    (λ c. search needs)
+    (λ c. search needs)
+    (λ c. search needs)
+    (λ c. search needs)
+    (λ c. search needs)
+    (λ c. search needs)
+    (λ c. search needs))

@@ -1,0 +1,18 @@
+-- `vectors::edges` is safe: the input has as many bytes as the hash is asked for.
+use native.Mathlib.Omega.{arith}
+use lib.ListN.{length-take}
+use borrow.Author.Needs.{needs}
+use Rattle.vectors.proofs.edges.Statement.{statement}
+use Rattle.vectors.proofs.edges.Tie as tie
+
+slice-aggregate-show : tie.Need-slice-aggregate-show
+slice-aggregate-show c = simp length-take (omega arith)
+
+pub edges-spec : {M : Type 1} → statement M
+edges-spec =
+    tie.close
+    (tie.spec
+    slice-aggregate-show
+    (λ c κs. search needs)
+    (λ c κs. search needs)
+    (λ c. search needs))
