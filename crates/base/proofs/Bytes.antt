@@ -28,7 +28,7 @@ bytes-of-le (x ∷ b) h =
     rw (low, high, ih)
 
 -- the bytes of the number at a place are those that stand there
-bytes-at : (w : ℕ) (s : List ℕ) (at : ℕ) → Bytes s → at + w ≤ length s → bytesLe w (leAt w s at) ≡ part at w s
+pub bytes-at : (w : ℕ) (s : List ℕ) (at : ℕ) → Bytes s → at + w ≤ length s → bytesLe w (leAt w s at) ≡ part at w s
 bytes-at w s at h l = ap (λ (k : ℕ). bytesLe k (leAt w s at)) (sym (length-part s at w l)) ∙ bytes-of-le (part at w s) (bytes-part s at w h)
 
 -- words that stand one behind the other, `m` bytes behind a place and at it

@@ -1,0 +1,4 @@
+pub mod Answers
+pub mod Choice
+pub mod Lookups
+pub mod Laws
