@@ -1,0 +1,191 @@
+-- The section from its header and its two tables, and each answer from what the section's reader answers.
+use mathlib.Core.Path.{_≡_, refl, sym, ap, subst, _∙_}
+use mathlib.Core.List.{List, [], _∷_}
+use Prim.Native.Nat.{ℕ, zero, suc, _+_, _*_, _-_, _≤_, _<_}
+use native.Mathlib.Nat.{mul-suc, mul-zero}
+use native.Mathlib.Omega.{arith}
+use lib.ListN.{length, drop, length-drop}
+use lib.Seq.{drop-drop}
+use Rattle.reading.specs.Fault.{Fault, shortInput}
+use Rattle.reading.specs.Numbers.{leAt}
+use Rattle.reading.specs.Reader.{Read, fault, got, Reader, next, u16, give, many}
+use Rattle.reading.specs.Answer.{Got, refused, found, _>>=_, itemOf}
+use Rattle.reading.specs.Places.{onTo, Goes, Holds, walked}
+use Rattle.reading.specs.declared.Table.{Table}
+use Rattle.reading.proofs.Reading.{both, number-at}
+use Rattle.reading.proofs.Width.{Width, Needs, width-give, width-bind, width-number, needs-none, needs-bind, fixed-number, fixed-many, fixed-at, needs-at, fixed-width}
+use Rattle.reading.proofs.Tables.{many-length, holds-width, holds-fits, holds-out, at-picked, at-reads}
+use Rattle.reading.proofs.Left.{stays-local, walk-is-table}
+use Rattle.format.specs.Faults.{noEntry}
+use Rattle.format.specs.Tasks.{Task, task, Program, program, TaskTable, taskTable}
+use Rattle.format.specs.Record.{TaskCounts, taskCounts}
+use Rattle.format.proofs.Answers.{never, same-found}
+use Rattle.task_table.specs.Lookups.{countsOf, taskEntries, programEntries, taskInside, programInside}
+use Rattle.task_table.specs.Laws.{Laws}
+use Rattle.task_table.proofs.Entries.{task-width, task-local, program-fixed, program-local}
+
+-- n items of width k take k times n bytes
+width-many : {A : Type 0} {r : Reader A} {k : ℕ} (n : ℕ) → Width k r → Width (k * n) (many n r)
+width-many {A} {r} {k} zero h = subst (λ (m : ℕ). Width m (many zero r)) (sym (mul-zero k)) (width-give [])
+width-many {A} {r} {k} (suc n) h =
+    let e : k + (k * n + 0) ≡ k * suc n = omega (arith, mul-suc k n) in
+    subst (λ (m : ℕ). Width m (many (suc n) r)) e (width-bind h (λ a. width-bind (width-many n h) (λ xs. width-give (a ∷ xs))))
+
+-- Reading the section
+
+pub table-needs : Needs 6 taskTable
+unfolding taskTable
+table-needs = needs-bind (fixed-number 2) λ n. needs-bind (fixed-number 2) λ m. needs-bind (fixed-number 2) λ g. needs-none _
+
+module _ (s : List ℕ) (n m g : ℕ) (h : 6 ≤ length s) (i : n ≡ leAt 2 s 0) (j : m ≡ leAt 2 s 2) (k : g ≡ leAt 2 s 4) where
+  table-head : taskTable s
+      ≡ next (many n task (drop 6 s)) (λ ts. λ x. next (many m program x) (λ ps. give (record { sharedGlobals = g; tasks = ts; programs = ps })))
+  unfolding taskTable
+  table-head = rw (number-at 2 s 0 2 refl (omega arith), number-at 2 s 2 4 refl (omega arith), number-at 2 s 4 6 refl h, i, j, k)
+
+  -- a task that is refused
+  pub table-stop : (f : Fault) → many n task (drop 6 s) ≡ fault f → refused f ≡ countsOf s
+  table-stop f e = rw (table-head, e)
+
+  -- the tasks reach to p
+  module _ (p : ℕ) (w : Goes (many n task) s 6 (onTo p)) where
+    pub table-short : length s - p < 16 * m → refused shortInput ≡ countsOf s
+    table-short l = rw (table-head, w .1 .1, needs-at (fixed-many m program-fixed .short) s p l)
+
+    pub table-whole : 16 * m ≤ length s - p → found (record { sharedGlobals = g; tasks = n; programs = m }) ≡ countsOf s
+    table-whole l =
+        let room = w .0 in
+        let q = fixed-at (fixed-many m program-fixed) s p (omega arith) in
+        let a = many-length task n (drop 6 s) (w .1 .0) (drop p s) (w .1 .1) in
+        let b = many-length program m (drop p s) (q .0) (drop (p + 16 * m) s) (q .1) in
+        rw (table-head, w .1 .1, q .1, a, b)
+
+-- The tables of a section that reads
+
+pub record Readable (s : List ℕ) (t : TaskTable) : Type 0 where
+  pub tasks : Holds task s (taskEntries (taskCounts t)) (t .tasks)
+  pub programs : Holds program s (programEntries (taskCounts t)) (t .programs)
+
+-- three numbers of two bytes each take six
+six : {n m g : ℕ} (s x y z : List ℕ) → u16 s ≡ got n x → u16 x ≡ got m y → u16 y ≡ got g z → (z ≡ drop 6 s) × (6 ≤ length s)
+six {n} {m} {g} s x y z e f h =
+    let a = width-number 2 .takes s n x e in
+    let b = width-number 2 .takes x m y f in
+    let c = width-number 2 .takes y g z h in
+    let four : y ≡ drop 4 s = b .0 ∙ ap (drop 2) (a .0) ∙ drop-drop 2 2 s in
+    (c .0 ∙ ap (drop 2) four ∙ drop-drop 2 4 s, omega (arith, c .1, ap length four ∙ length-drop 4 s))
+
+-- a table that was read at a place
+module _ {A : Type 0} (r : Reader A) (n at : ℕ) (s x rest : List ℕ) (xs : List A) (e : x ≡ drop at s) (h : at ≤ length s) (g : many n r x ≡ got xs rest) where
+  holds-at : Holds r s (record { at = at; count = length xs }) xs
+  holds-at =
+      record {
+        within = h;
+        rest = rest;
+        reads = ap (λ (i : ℕ). many i r (drop at s)) (many-length r n x xs rest g) ∙ ap (many n r) (sym e) ∙ g;
+      }
+
+  behind : {w : ℕ} → Width w r → (rest ≡ drop (at + w * length xs) s) × (at + w * length xs ≤ length s)
+  behind {w} hw =
+      let l = many-length r n x xs rest g in
+      let k = width-many n hw .takes x xs rest g in
+      let d = ap length e ∙ length-drop at s in
+      let z : w * length xs ≡ w * n = ap (λ (i : ℕ). w * i) l in
+      (k .0 ∙ ap (drop (w * n)) e ∙ drop-drop (w * n) at s ∙ ap (λ (i : ℕ). drop (at + i) s) (sym z), omega (arith, k .1))
+
+pub readable : (s : List ℕ) (t : TaskTable) (rest : List ℕ) → taskTable s ≡ got t rest → Readable s t
+unfolding taskTable
+readable s t rest e =
+    let a = both (u16 s) e in
+    let b = both (u16 (a .middle)) (a .second) in
+    let c = both (u16 (b .middle)) (b .second) in
+    let d = both (many (a .item) task (c .middle)) (c .second) in
+    let p = both (many (b .item) program (d .middle)) (d .second) in
+    let h = six s (a .middle) (b .middle) (c .middle) (a .first) (b .first) (c .first) in
+    let k = behind task (a .item) 6 s (c .middle) (d .middle) (d .item) (h .0) (h .1) (d .first) task-width in
+    let all : record { sharedGlobals = c .item; tasks = d .item; programs = p .item } ≡ t = cc in
+    subst (λ (v : TaskTable). Readable s v) all
+    (record {
+      tasks = holds-at task (a .item) 6 s (c .middle) (d .middle) (d .item) (h .0) (h .1) (d .first);
+      programs = holds-at program (b .item) (6 + 32 * length (d .item)) s (d .middle) (p .middle) (p .item) (k .0) (k .1) (p .first);
+    })
+
+-- Each answer from the counts
+
+-- a section that does not read is refused to every lookup
+pub counts-refused : {B : Type 0} (s : List ℕ) (f : Fault) (go : TaskTable → Got B) → refused f ≡ countsOf s → refused f ≡ (itemOf (taskTable s) >>= go)
+counts-refused {B} s f go e = here (itemOf (taskTable s)) e
+  where
+    here : (x : Got TaskTable) → refused f ≡ (x >>= λ t. found (taskCounts t)) → refused f ≡ (x >>= go)
+    here (refused d) e = cc
+    here (found t) e = never e
+
+module _ (s : List ℕ) (c : TaskCounts) (e : found c ≡ countsOf s) where
+  record Counted : Type 0 where
+    table : TaskTable
+    rest : List ℕ
+    reads : taskTable s ≡ got table rest
+    counts : taskCounts table ≡ c
+    tasks : Holds task s (taskEntries c) (table .tasks)
+    programs : Holds program s (programEntries c) (table .programs)
+
+  counted : Counted
+  counted = here (taskTable s) refl e
+    where
+      here : (x : Read TaskTable) → taskTable s ≡ x → found c ≡ (itemOf x >>= λ t. found (taskCounts t)) → Counted
+      here (fault f) d e = never (sym e)
+      here (got t rest) d e =
+          let z : taskCounts t ≡ c = sym (same-found e) in
+          let r = readable s t rest d in
+          record {
+            table = t;
+            rest = rest;
+            reads = d;
+            counts = z;
+            tasks = subst (λ (v : TaskCounts). Holds task s (taskEntries v) (t .tasks)) z (r .tasks);
+            programs = subst (λ (v : TaskCounts). Holds program s (programEntries v) (t .programs)) z (r .programs);
+          }
+
+  -- where a table starts
+  pub start : (g : TaskCounts → Table) → found (g c) ≡ (itemOf (taskTable s) >>= λ t. found (g (taskCounts t)))
+  start g = rw (counted .reads, counted .counts)
+
+  module _ (k : ℕ) where
+    pub task-out : c .tasks ≤ k → refused noEntry ≡ taskInside s k
+    task-out l = rw (counted .reads) (sym (holds-out task s (taskEntries c) (counted .table .tasks) (counted .tasks) k noEntry l))
+
+    pub program-out : c .programs ≤ k → refused noEntry ≡ programInside s k
+    program-out l = rw (counted .reads) (sym (holds-out program s (programEntries c) (counted .table .programs) (counted .programs) k noEntry l))
+
+    -- the task at an index stands behind the header and those before it
+    module _ (l : k < c .tasks) where
+      pub task-fits : 6 + 32 * k + 32 ≤ length s
+      task-fits = holds-fits task s (taskEntries c) (counted .table .tasks) (counted .tasks) task-width (omega arith) k l
+
+      pub task-found : (a : Task) (t : List ℕ) → task (drop (6 + 32 * k) s) ≡ got a t → found a ≡ taskInside s k
+      task-found a t d =
+          rw (counted .reads) (sym (at-picked task (holds-width task s (taskEntries c) (counted .table .tasks) (counted .tasks) task-width k l) a t d noEntry))
+
+      pub task-never : (f : Fault) → task (drop (6 + 32 * k) s) ≡ fault f → ⊥
+      task-never f d = at-reads task (holds-width task s (taskEntries c) (counted .table .tasks) (counted .tasks) task-width k l) f d
+
+    -- the program at an index stands behind the tasks and the programs before it
+    module _ (l : k < c .programs) where
+      pub program-fits : 6 + 32 * c .tasks + 16 * k + 16 ≤ length s
+      program-fits = holds-fits program s (programEntries c) (counted .table .programs) (counted .programs) (fixed-width program-fixed) (omega arith) k l
+
+      pub program-found : (a : Program) (t : List ℕ) → program (drop (6 + 32 * c .tasks + 16 * k) s) ≡ got a t → found a ≡ programInside s k
+      program-found a t d =
+          rw (counted .reads) (sym (at-picked program (holds-width program s (programEntries c) (counted .table .programs) (counted .programs) (fixed-width program-fixed) k l) a t d noEntry))
+
+-- a walk gives what the table holds
+walk-holds : {A : Type 0} (r : Reader A) (s : List ℕ) (t : Table) (xs : List A) → ((n : ℕ) → t .count ≡ n → walked n r s t ≡ itemOf (many n r (drop (t .at) s))) → Holds r s t xs
+    → walked (t .count) r s t ≡ found xs
+walk-holds r s t xs w h = w (t .count) refl ∙ ap itemOf (h .reads)
+
+pub laws : Laws
+laws =
+    record {
+      tasks = λ s t rest e. walk-holds task s (taskEntries (taskCounts t)) (t .tasks) (λ n. walk-is-table s task (stays-local s task-local) n (taskEntries (taskCounts t))) (readable s t rest e .tasks);
+      programs = λ s t rest e. walk-holds program s (programEntries (taskCounts t)) (t .programs) (λ n. walk-is-table s program (stays-local s program-local) n (programEntries (taskCounts t))) (readable s t rest e .programs);
+    }

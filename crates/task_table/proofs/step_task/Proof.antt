@@ -1,0 +1,49 @@
+-- `task_table::step_task` meets its contract: what stands at the place is the table's next entry.
+use mathlib.Core.Path.{ap}
+use native.Mathlib.Omega.{arith}
+use denote.Ref.{now}
+use Rattle.reading.proofs.Width.{needs-at}
+use Rattle.reading.proofs.Passing.{reads-told}
+use Rattle.format.specs.Tasks.{task}
+use Rattle.task_table.specs.Answers.{taskStep}
+use Rattle.task_table.proofs.Entries.{task-needs}
+use Rattle.base.proofs.FileLookups.{step-ends, step-stops, step-entry}
+use borrow.Author.Needs.{needs}
+use Rattle.task_table.proofs.step_task.Statement.{statement}
+use Rattle.task_table.proofs.step_task.Tie as tie
+
+returns : tie.Need-returns
+returns c = let a = c .before .before .before .args in step-ends task (now (a .s)) (a .t) (c .if1 .taken)
+
+returns-2 : tie.Need-returns-2
+returns-2 c =
+    let a = c .before .before .before .before .args in
+    step-stops task (now (a .s)) (a .t) (λ z. omega arith) (needs-at task-needs (now (a .s)) (a .t .at) (omega arith))
+
+returns-3 : tie.Need-returns-3
+returns-3 c =
+    let a = c .before .before .before .before .before .before .before .before .args in
+    let s = now (a .s) in
+    let v = c .before .e .given in
+    step-stops task s (a .t) (λ z. omega arith) (reads-told task s (a .t .at) (ap taskStep (v .1)) (c .before .before .before .read-task .ensures))
+
+returns-4 : tie.Need-returns-4
+returns-4 c =
+    let a = c .before .before .before .before .before .before .before .before .before .args in
+    let s = now (a .s) in
+    let v = c .before .before .x .given in
+    let g = reads-told task s (a .t .at) (ap taskStep (v .1)) (c .before .before .before .before .read-task .ensures) in
+    step-entry task s (a .t) (λ z. omega arith) (g .0) (g .1)
+
+pub step-task-spec : {M : Type 1} → statement M
+step-task-spec =
+    tie.close
+    (tie.spec
+    returns
+    returns-2
+    (λ c κs. search needs)
+    (λ c. search needs)
+    (λ c. search needs)
+    (λ c. search needs)
+    returns-3
+    returns-4)
