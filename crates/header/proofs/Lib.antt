@@ -1,3 +1,4 @@
+pub mod Found
 pub mod Numbers
 pub mod Runs
 pub mod Masking

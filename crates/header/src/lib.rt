@@ -9,7 +9,7 @@ use reading::u16_at;
 use reading::u32_at;
 use reading::u64_at;
 ghost use mathlib.Core.Path.{_≡_};
-ghost use Prim.Native.Nat.{_+_, _≤_, _<_};
+ghost use Prim.Native.Nat.{_+_, _≤_};
 ghost use lib.ListN.{length};
 ghost use Rattle.format.specs.Parts.{part};
 ghost use Rattle.format.specs.Header.{placeAt, directoryOf, runtimeOf, headerOf, typesFlag, withoutDebugBit};
@@ -23,7 +23,7 @@ pub const MAGIC: u32 = 0x49504C43;
 
 pub const FORMAT_VERSION: u16 = 4;
 
-// The machine keeps its up time in the first two variables.
+// The variables 0 and 1 are the up time, which the machine writes before each scan.
 pub const FLAG_HAS_SYSTEM_UPTIME: u8 = 0x01;
 
 // There is a debug section.

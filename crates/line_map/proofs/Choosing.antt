@@ -131,17 +131,17 @@ module _ (f q : ℕ) where
 -- The lookup, by what the order test and the choice answered
 
 module _ (s : List ℕ) (at n f q : ℕ) (h : 10 * n ≤ length s - at) where
-  pub lookup-unsorted : found false ≡ sortedIn s at n → refused unsortedMap ≡ sourceLineIn s at n f q
+  pub lookup-unsorted : {t : Bool} → found t ≡ sortedIn s at n → t ≡ false → refused unsortedMap ≡ sourceLineIn s at n f q
   unfolding lineFor
-  lookup-unsorted z =
+  lookup-unsorted z u =
       let k = lines-read s at n h in
-      let o : false ≡ sorted (k .0) = same-found (rw (k .1) at z) in
-      rw (k .1, ← o)
+      let o : sorted (k .0) ≡ false = sym (same-found (rw (k .1) at z)) ∙ u in
+      rw (k .1, o)
 
-  pub lookup-chosen : found true ≡ sortedIn s at n → (x : Option Line) → found x ≡ choiceIn s at n f q → present noLine x ≡ sourceLineIn s at n f q
+  pub lookup-chosen : {t : Bool} {y x : Option Line} → found t ≡ sortedIn s at n → t ≡ true → found y ≡ choiceIn s at n f q → y ≡ x → present noLine x ≡ sourceLineIn s at n f q
   unfolding lineFor
-  lookup-chosen z x c =
+  lookup-chosen {x = x} z u c v =
       let k = lines-read s at n h in
-      let o : true ≡ sorted (k .0) = same-found (rw (k .1) at z) in
-      let b : x ≡ choiceOf f q none (k .0) = same-found (rw (k .1) at c) in
-      rw (k .1, ← o, b, choice-is-best f q none (k .0) (sym o))
+      let o : sorted (k .0) ≡ true = sym (same-found (rw (k .1) at z)) ∙ u in
+      let b : x ≡ choiceOf f q none (k .0) = sym v ∙ same-found (rw (k .1) at c) in
+      rw (k .1, o, b, choice-is-best f q none (k .0) o)

@@ -1,5 +1,6 @@
 -- An entry of the map at a place, and answers within the map by what its first entry is.
 use mathlib.Core.Path.{_≡_, refl, sym, ap, _∙_}
+use mathlib.Core.Bool.{Bool, true, false}
 use mathlib.Core.List.{List, [], _∷_}
 use Prim.Native.Nat.{ℕ, suc, _+_, _*_, _-_, _/_, _≤_, _<_}
 use native.Mathlib.Decide.{decLe}
@@ -7,7 +8,7 @@ use native.Mathlib.Omega.{arith}
 use lib.Dec.{eqb, leb}
 use lib.ListN.{length, drop, length-drop}
 use lib.Seq.{drop-drop}
-use borrow.Author.Tests.{eq-eqb, ne-eqb, le-leb, lt-leb}
+use borrow.Author.Tests.{eq-eqb, ne-eqb, le-leb, lt-leb, leb-true, leb-false}
 use Rattle.reading.specs.Fault.{shortInput}
 use Rattle.reading.specs.Numbers.{leAt}
 use Rattle.reading.specs.Reader.{Read, fault, got, next, give, many}
@@ -21,24 +22,22 @@ use Rattle.format.specs.Faults.{noEntry}
 use Rattle.format.specs.Debug.{Line, line}
 use Rattle.line_map.specs.Lookups.{linesFit, inLines, lineAt}
 
-pub line-at : (s : List ℕ) (at : ℕ) → at + 10 ≤ length s → line (drop at s)
-    ≡ got
-    (record {
-      function = leAt 2 s at;
-      offset = leAt 2 s (at + 2);
-      file = leAt 2 s (at + 4);
-      line = leAt 2 s (at + 6);
-      column = leAt 2 s (at + 8);
-    })
-    (drop (at + 10) s)
+-- an entry of the five numbers that stand there
+pub line-at : (s : List ℕ) (at f o i l c : ℕ) → at + 10 ≤ length s → f ≡ leAt 2 s at → o ≡ leAt 2 s (at + 2) → i ≡ leAt 2 s (at + 4) → l ≡ leAt 2 s (at + 6) → c ≡ leAt 2 s (at + 8)
+    → line (drop at s) ≡ got (record { function = f; offset = o; file = i; line = l; column = c }) (drop (at + 10) s)
 unfolding line
-line-at s at h =
+line-at s at f o i l c h e₁ e₂ e₃ e₄ e₅ =
     rw (
       number-at 2 s at (at + 2) refl (omega arith),
       number-at 2 s (at + 2) (at + 4) (omega arith) (omega arith),
       number-at 2 s (at + 4) (at + 6) (omega arith) (omega arith),
       number-at 2 s (at + 6) (at + 8) (omega arith) (omega arith),
       number-at 2 s (at + 8) (at + 10) (omega arith) h,
+      e₁,
+      e₂,
+      e₃,
+      e₄,
+      e₅,
     )
 
 pub line-fixed : Fixed 10 line
@@ -110,6 +109,13 @@ module _ (s : List ℕ) (at n : ℕ) where
       go : Dec (10 * n ≤ length s - at) → leb n ((length s - at) / 10) ≡ linesFit s at n
       go (yes l) = rw (le-leb n ((length s - at) / 10) (omega arith), le-leb (10 * n) (length s - at) l)
       go (no l) = rw (lt-leb n ((length s - at) / 10) (omega arith), lt-leb (10 * n) (length s - at) (omega arith))
+
+  -- what it tells
+  pub fit-told : {r : Bool} → r ≡ linesFit s at n → r ≡ true → 10 * n ≤ length s - at
+  fit-told e t = leb-true _ _ (sym e ∙ t)
+
+  pub short-told : {r : Bool} → r ≡ linesFit s at n → r ≡ false → length s - at < 10 * n
+  short-told e t = leb-false _ _ (sym e ∙ t)
 
 -- one step of a walk
 module _ (s : List ℕ) (t : Table) where

@@ -147,7 +147,7 @@ fn choose(s: &[u8], at: usize, n: usize, function_id: FunctionId, bytecode_offse
 {
     let mut i = 0;
     let mut best = MaybeLine::None;
-    let chosen = loop {
+    loop {
         if i == n {
             break best;
         }
@@ -159,8 +159,7 @@ fn choose(s: &[u8], at: usize, n: usize, function_id: FunctionId, bytecode_offse
             best = better(best, e);
         }
         i += 1;
-    };
-    chosen
+    }
 }
 
 // The source location of a function's bytecode offset: the last entry of the function whose offset is greatest among those not above it.

@@ -1,4 +1,5 @@
 -- `line_map::better` meets its contract: its two cases are those of `better`.
+use native.Mathlib.Omega.{arith}
 use borrow.Author.Tests.{le-leb, lt-leb}
 use borrow.Author.Needs.{needs}
 use Rattle.line_map.proofs.better.Statement.{statement}
@@ -8,10 +9,16 @@ returns : tie.Need-returns
 returns c = rw (c .enum-told .given .1)
 
 returns-2 : tie.Need-returns-2
-returns-2 c = rw (c .before .before .before .before .best .given .1, le-leb _ _ (c .if1 .taken))
+returns-2 c =
+    let b = c .before .before .before .before .best .given in
+    let e = c .before .before .before .before .before .before .args .e in
+    rw (b .1, le-leb (b .0 .0 .«bytecode_offset») (e .«bytecode_offset») (omega arith))
 
 returns-3 : tie.Need-returns-3
-returns-3 c = rw (c .before .before .before .before .best .given .1, lt-leb _ _ (c .if1 .left))
+returns-3 c =
+    let b = c .before .before .before .before .best .given in
+    let e = c .before .before .before .before .before .before .args .e in
+    rw (b .1, lt-leb (b .0 .0 .«bytecode_offset») (e .«bytecode_offset») (omega arith))
 
 pub better-spec : {M : Type 1} → statement M
 better-spec =

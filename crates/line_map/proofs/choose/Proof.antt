@@ -4,7 +4,7 @@ use mathlib.Core.Logic.{⊎-elim}
 use Prim.Native.Nat.{_+_, _*_, _-_, _≤_}
 use native.Mathlib.Omega.{arith}
 use borrow.Author.Tests.{eq-eqb, ne-eqb}
-use Rattle.line_map.specs.Answers.{lineIn, maybeLine}
+use Rattle.line_map.specs.Answers.{maybeLine}
 use Rattle.line_map.specs.Lookups.{choiceIn}
 use Rattle.line_map.proofs.Choosing.{choiceBehind, choice-start, choice-end, choice-above, choice-more}
 use borrow.Author.Needs.{needs}
@@ -39,7 +39,10 @@ loop-less c = omega arith
 loop-again : tie.Need-loop-again Inv-loop μ-loop
 loop-again c =
     let a = c .before .before .before .before .before .before .before .before .before .args in
-    let on = choice-more (a .s .now) (a .at) (a .n) _ _ (c .before .before .before .before .before .before .before .loop .i) (maybeLine (c .before .before .before .before .before .before .before .loop .best)) (c .before .before .before .before .before .before .before .loop .inv .1) (lineIn (c .before .before .before .before .before .entry-at .result)) (omega arith) (c .before .before .before .before .before .entry-at .ensures) (sym (c .before .before .before .before .is-above .ensures) ∙ c .before .before .before .if2 .left) (maybeLine (c .if3 .best)) in (
+    let l = c .before .before .before .before .before .before .before .loop in
+    let e = c .before .before .before .before .before .entry-at in
+    let test = sym (c .before .before .before .before .is-above .ensures) ∙ c .before .before .before .if2 .left in
+    let on = choice-more (a .s .now) (a .at) (a .n) _ _ (l .i) _ (l .inv .1) _ (omega arith) (e .ensures) test (maybeLine (c .if3 .best)) in (
       omega arith,
       on (⊎-elim
           (λ w. ap maybeLine (w .2) ∙ w .1 .ensures ∙ rw (eq-eqb _ _ (w .0 .taken)))
@@ -50,13 +53,15 @@ loop-again c =
 returns : tie.Need-returns Inv-loop μ-loop
 returns c =
     let a = c .before .before .before .args in
-    choice-end (a .s .now) (a .at) (a .n) _ _ (c .before .loop .i) (maybeLine (c .before .loop .best)) (c .before .loop .inv .1) (c .if1 .taken)
+    let l = c .before .loop in
+    choice-end (a .s .now) (a .at) (a .n) _ _ (l .i) _ (l .inv .1) (c .if1 .taken)
 
 returns-2 : tie.Need-returns-2 Inv-loop μ-loop
 returns-2 c =
     let a = c .before .before .before .before .before .before .args in
-    choice-above (a .s .now) (a .at) (a .n) _ _ (c .before .before .before .before .loop .i) (maybeLine (c .before .before .before .before .loop .best)) (c .before .before .before .before .loop .inv .1) (lineIn (c .before .before .entry-at .result)) (omega arith)
-    (c .before .before .entry-at .ensures) (c .before .before .before .before .before .before .pre) (sym (c .before .is-above .ensures) ∙ c .if2 .taken)
+    let l = c .before .before .before .before .loop in
+    let e = c .before .before .entry-at in
+    choice-above (a .s .now) (a .at) (a .n) _ _ (l .i) _ (l .inv .1) _ (omega arith) (e .ensures) (c .before .before .before .before .before .before .pre) (sym (c .before .is-above .ensures) ∙ c .if2 .taken)
 
 pub choose-spec : {M : Type 1} → statement M
 choose-spec =

@@ -36,8 +36,9 @@ entry-at-requires-2 c κs = omega arith
 returns-2 : tie.Need-returns-2 Inv-loop μ-loop
 returns-2 c =
     let a = c .before .before .before .before .before .before .before .before .args in
-    sorted-not (a .s .now) (a .at) (a .n) (c .before .before .before .before .loop .i) (lineIn (c .before .before .before .before .loop .last)) (c .before .before .before .before .loop .inv .1) (lineIn (c .before .before .entry-at2 .result)) (c .before .before .before .loop-test .taken)
-    (c .before .before .entry-at2 .ensures) (c .before .before .before .before .before .before .before .before .pre) (sym (c .before .in-order .ensures) ∙ c .if2 .left)
+    let l = c .before .before .before .before .loop in
+    let e = c .before .before .entry-at2 in
+    sorted-not (a .s .now) (a .at) (a .n) (l .i) _ (l .inv .1) _ (omega arith) (e .ensures) (c .before .before .before .before .before .before .before .before .pre) (sym (c .before .in-order .ensures) ∙ c .if2 .left)
 
 add-i : tie.Need-add-i Inv-loop μ-loop
 add-i c = omega arith
@@ -48,12 +49,15 @@ loop-less c = omega arith
 loop-again : tie.Need-loop-again Inv-loop μ-loop
 loop-again c =
     let a = c .before .before .before .before .before .before .before .before .args in
-    (omega arith, sorted-more (a .s .now) (a .at) (a .n) (c .before .before .before .before .loop .i) (lineIn (c .before .before .before .before .loop .last)) (c .before .before .before .before .loop .inv .1) (lineIn (c .before .before .entry-at2 .result)) (c .before .before .before .loop-test .taken) (c .before .before .entry-at2 .ensures) (sym (c .before .in-order .ensures) ∙ c .if2 .taken))
+    let l = c .before .before .before .before .loop in
+    let e = c .before .before .entry-at2 in
+    (omega arith, sorted-more (a .s .now) (a .at) (a .n) (l .i) _ (l .inv .1) _ (omega arith) (e .ensures) (sym (c .before .in-order .ensures) ∙ c .if2 .taken))
 
 returns-3 : tie.Need-returns-3 Inv-loop μ-loop
 returns-3 c =
     let a = c .before .before .before .before .before .args in
-    sorted-end (a .s .now) (a .at) (a .n) (c .before .loop .i) (lineIn (c .before .loop .last)) (c .before .loop .inv .1) (c .loop-test .left)
+    let l = c .before .loop in
+    sorted-end (a .s .now) (a .at) (a .n) (l .i) _ (l .inv .1) (c .loop-test .left)
 
 pub is-sorted-spec : {M : Type 1} → statement M
 is-sorted-spec =

@@ -1,0 +1,111 @@
+-- The entry of the constant pool at a place of the section: what each test of the code says of it, and what is kept of it.
+use mathlib.Core.Path.{_≡_, refl, sym, ap, _∙_}
+use mathlib.Core.Bool.{Bool, true, false, not}
+use mathlib.Core.List.{List}
+use Prim.Native.Nat.{ℕ, _+_, _-_, _≤_, _<_}
+use native.Mathlib.Nat.{add-sub-cancel-left}
+use native.Mathlib.Omega.{arith}
+use borrow.Author.Tests.{leb-true}
+use lib.Dec.{leb}
+use lib.ListN.{length, take, drop, length-drop}
+use Rattle.reading.specs.Fault.{Fault, shortInput}
+use Rattle.reading.specs.Numbers.{le, leAt, bytesLe}
+use Rattle.reading.specs.Reader.{fault, got, Reader, _>>=_, _>>_, give, check, left, bytes}
+use Rattle.reading.specs.Answer.{refused, found}
+use Rattle.reading.proofs.Reading.{number-at, bytes-at, bytes-short}
+use Rattle.reading.proofs.Le.{Bytes, bytes-part}
+use Rattle.reading.proofs.Parts.{length-part}
+use Rattle.reading.proofs.Width.{Needs, needs-none, needs-bind, fixed-number}
+use Rattle.format.specs.Faults.{invalidConstantType}
+use Rattle.format.specs.Parts.{Keep, part}
+use Rattle.format.specs.Constants.{Constant, number, string, isNumber, sizeFits, keptOf, constant}
+use Rattle.format.proofs.Answers.{never}
+use Rattle.base.specs.Small.{constTypeOf}
+use Rattle.constant_pool.specs.Lookups.{keptOver}
+use Rattle.constant_pool.proofs.Numbers.{bytes-filled}
+
+module _ {T : Type 0} (keep : Keep T) where
+  pub constant-short : Needs 4 (constant keep)
+  unfolding constant
+  constant-short = needs-bind (fixed-number 1) (λ k. needs-bind (fixed-number 1) (λ t. needs-bind (fixed-number 2) (λ n. needs-none _)))
+
+  -- an entry's bytes, behind its head
+  body : ℕ → ℕ → Reader (Constant T)
+  body kind size = bytes size >>= λ b. left >>= λ behind. give (record { kind = kind; kept = keptOf keep kind b behind })
+
+  module _ (s : List ℕ) (at size : ℕ) (h : at + 4 ≤ length s) (n : size ≡ leAt 2 s (at + 2)) where
+    -- behind the four bytes of the head
+    constant-head : (kind : ℕ) → kind ≡ leAt 1 s at → constant keep (drop at s)
+        ≡ (check (leb kind 7) (invalidConstantType kind) >> (check (sizeFits kind size) (invalidConstantType kind) >> body kind size)) (drop (at + 4) s)
+    unfolding constant body
+    constant-head kind k =
+        rw (
+          number-at 1 s at (at + 1) refl (omega arith),
+          number-at 1 s (at + 1) (at + 2) (omega arith) (omega arith),
+          number-at 2 s (at + 2) (at + 4) (omega arith) h,
+          k,
+          n,
+        )
+
+    -- a type that is refused
+    pub constant-type : (v : ℕ) (f : Fault) → v ≡ leAt 1 s at → refused f ≡ constTypeOf v → constant keep (drop at s) ≡ fault f
+    constant-type v f k e = go (leb v 7) refl e
+      where
+        go : (z : Bool) → leb v 7 ≡ z → refused f ≡ constTypeOf v → constant keep (drop at s) ≡ fault f
+        go true z e = never (rw z at e)
+        go false z e = let y = rw z at e in let x : invalidConstantType v ≡ f = cc in rw (constant-head v k, z) (ap fault x)
+
+    -- a type that is good
+    module _ (v kind : ℕ) (k : v ≡ leAt 1 s at) (e : found kind ≡ constTypeOf v) where
+      constant-good : constant keep (drop at s) ≡ (check (sizeFits kind size) (invalidConstantType kind) >> body kind size) (drop (at + 4) s)
+      constant-good = go (leb v 7) refl e
+        where
+          go : (z : Bool) → leb v 7 ≡ z → found kind ≡ constTypeOf v
+              → constant keep (drop at s) ≡ (check (sizeFits kind size) (invalidConstantType kind) >> body kind size) (drop (at + 4) s)
+          go true z e = let y = rw z at e in let x : v ≡ kind = cc in rw (constant-head v k, z, x)
+          go false z e = never (sym (rw z at e))
+
+      pub constant-size : sizeFits kind size ≡ false → constant keep (drop at s) ≡ fault (invalidConstantType kind)
+      constant-size f = constant-good ∙ rw f
+
+      pub constant-few : sizeFits kind size ≡ true → length s - (at + 4) < size → constant keep (drop at s) ≡ fault shortInput
+      unfolding body
+      constant-few f l = let d = length-drop (at + 4) s in constant-good ∙ rw (f, bytes-short size (drop (at + 4) s) (omega arith))
+
+      pub constant-whole : sizeFits kind size ≡ true → size ≤ length s - (at + 4)
+          → constant keep (drop at s)
+          ≡ got (record { kind = kind; kept = keptOf keep kind (part (at + 4) size s) (length s - (at + 4 + size)) }) (drop (at + 4 + size) s)
+      unfolding body
+      constant-whole f l =
+          let d = length-drop (at + 4 + size) s in
+          constant-good ∙ rw (f, bytes-at size s (at + 4) (at + 4 + size) refl (omega arith), d)
+
+-- a type is a string's or a number's
+turned : (b z : Bool) → z ≡ not b → b ≡ not z
+turned true z e = rw e
+turned false z e = rw e
+
+-- what the test of the type, `z`, says of its size, and of what is kept of it
+module _ (kind size : ℕ) (z : Bool) (e : z ≡ not (isNumber kind)) where
+  pub fits-string : z ≡ true → true ≡ sizeFits kind size
+  fits-string h = rw (turned (isNumber kind) z e, h)
+
+  pub fits-number : z ≡ false → leb size 8 ≡ sizeFits kind size
+  fits-number h = rw (turned (isNumber kind) z e, h)
+
+  module _ (base : ℕ) (s : List ℕ) (at : ℕ) (l : at + size ≤ length s) where
+    pub string-kept : z ≡ true → string (record { offset = base + at; size = size }) ≡ keptOver base s kind at size
+    unfolding keptOf
+    string-kept h =
+        let m = length-part s at size l in
+        let o : base + length s - (length s - (at + size)) - size ≡ base + at = omega arith in
+        rw (turned (isNumber kind) z e, h, m, o)
+
+    pub number-kept : (n : ℕ) → Bytes s → z ≡ false → sizeFits kind size ≡ true → n ≡ le (take (at + size - at) (drop at s))
+        → number (bytesLe 8 n) ≡ keptOver base s kind at size
+    unfolding keptOf
+    number-kept n b h f p =
+        let m = length-part s at size l in
+        let k = leb-true size 8 (fits-number h ∙ f) in
+        let q : n ≡ le (part at size s) = p ∙ rw add-sub-cancel-left in
+        rw (turned (isNumber kind) z e, h) (ap number (ap (bytesLe 8) q ∙ bytes-filled 8 (part at size s) (bytes-part s at size b) (omega arith)))

@@ -1,0 +1,99 @@
+-- A walk over the constants: the law of each step, and that the steps from the start on give the constants.
+use mathlib.Core.Path.{_≡_, refl, sym, ap, _∙_}
+use mathlib.Core.List.{List}
+use Prim.Native.Nat.{ℕ, _-_, _≤_}
+use native.Mathlib.Omega.{arith}
+use borrow.Author.Tests.{eq-eqb, ne-eqb}
+use lib.Dec.{leb}
+use lib.ListN.{length, drop, length-drop}
+use Rattle.reading.specs.Fault.{Fault}
+use Rattle.reading.specs.Reader.{Read, fault, got, Reader, _>>=_, left, u16}
+use Rattle.reading.specs.Answer.{Got, refused, found, itemOf}
+use Rattle.reading.specs.Places.{ends, faulty, entry, stepOf, walked}
+use Rattle.reading.specs.declared.Table.{Table}
+use Rattle.reading.proofs.Reading.{both}
+use Rattle.reading.proofs.Width.{width-number}
+use Rattle.reading.proofs.Tables.{many-length}
+use Rattle.reading.proofs.Local.{local-give, local-check, local-bytes, local-number}
+use Rattle.reading.proofs.Left.{Stays, stays-local, walk-is-table}
+use Rattle.format.specs.Faults.{invalidConstantType}
+use Rattle.format.specs.Parts.{Place, cut, Keep, byPlace}
+use Rattle.format.specs.Constants.{Constant, sizeFits, keptOf, constant, constants}
+use Rattle.format.proofs.Answers.{never, same-found, steps}
+use Rattle.base.specs.Section.{stepBy, sectionPart}
+use Rattle.base.proofs.Sections.{section-refused, section-found}
+use Rattle.constant_pool.specs.Lookups.{poolAt, startAt}
+use Rattle.constant_pool.specs.Laws.{Walk, Laws}
+
+module _ {A : Type 0} (r : Reader A) (s : List ℕ) (t : Table) where
+  pub step-end : t .count ≡ 0 → ends ≡ stepOf r s t
+  unfolding stepOf
+  step-end h = rw (eq-eqb (t .count) 0 h)
+
+  pub step-stop : (f : Fault) → (t .count ≡ 0 → ⊥) → r (drop (t .at) s) ≡ fault f → faulty f ≡ stepOf r s t
+  unfolding stepOf
+  step-stop f h e = rw (ne-eqb (t .count) 0 h, e)
+
+  pub step-entry : (a : A) (m : ℕ) → (t .count ≡ 0 → ⊥) → m ≤ length s → r (drop (t .at) s) ≡ got a (drop m s)
+      → entry a (record { at = m; count = t .count - 1 }) ≡ stepOf r s t
+  unfolding stepOf
+  step-entry a m h l e =
+      let d : length s - length (drop m s) ≡ m = omega (arith, length-drop m s) in
+      rw (ne-eqb (t .count) 0 h, e, d)
+
+-- what an entry leaves of the section is left of it, however strings are kept
+module _ (whole : List ℕ) where
+  stays-bind : {A B : Type 0} {r : Reader A} {go : A → Reader B} → Stays whole r → ((a : A) → Stays whole (go a)) → Stays whole (r >>= go)
+  stays-bind {A} {B} {r} {go} hr hg =
+      record {
+        leaves = λ s b t w e.
+            let k = both (r s) e in
+            hg (k .item) .leaves (k .middle) b t (hr .leaves s (k .item) (k .middle) w (k .first)) (k .second);
+      }
+
+  stays-left : Stays whole left
+  stays-left = record { leaves = λ s n t w e. let z : s ≡ t = cc in rw z at w }
+
+  stays-constant : {T : Type 0} (keep : Keep T) → Stays whole (constant keep)
+  unfolding constant
+  stays-constant keep =
+      stays-bind (stays-local whole (local-number 1)) λ kind.
+      stays-bind (stays-local whole (local-number 1)) λ tag.
+      stays-bind (stays-local whole (local-number 2)) λ size.
+      stays-bind (stays-local whole (local-check (leb kind 7) (invalidConstantType kind))) λ u.
+      stays-bind (stays-local whole (local-check (sizeFits kind size) (invalidConstantType kind))) λ v.
+      stays-bind (stays-local whole (local-bytes size)) λ body.
+      stays-bind stays-left λ behind. stays-local whole (local-give (record { kind = kind; kept = keptOf keep kind body behind }))
+
+item-got : {A : Type 0} (x : Read A) (a : A) → itemOf x ≡ found a → (rest : List ℕ) × (x ≡ got a rest)
+item-got (fault f) a e = never e
+item-got (got b rest) a e = let z : b ≡ a = cc in (rest, ap (λ v. got v rest) z)
+
+module _ (p : Place) (s : List ℕ) (cs : List (Constant Place)) (t : Table) where
+  walk-gives : itemOf (constants (byPlace p) s) ≡ found cs → record { at = 2; count = length cs } ≡ t → walked (t .count) (constant (byPlace p)) s t ≡ found cs
+  unfolding constants
+  walk-gives e h =
+      let r = constant (byPlace p) in
+      let g = item-got (constants (byPlace p) s) cs e in
+      let k = both (u16 s) (g .1) in
+      let m = width-number 2 .takes s (k .item) (k .middle) (k .first) .0 in
+      let n = many-length r (k .item) (k .middle) cs (g .0) (k .second) in
+      let at : t .at ≡ 2 = sym (ap (λ (u : Table). u .at) h) in
+      let count : t .count ≡ k .item = sym (ap (λ (u : Table). u .count) h) ∙ n in
+      walk-is-table s r (stays-constant s (byPlace p)) (t .count) t refl ∙ rw (at, count, ← m, k .second)
+
+walk : (f : List ℕ) (p : Place) (t : Table) → startAt f p ≡ found t → Walk f p t
+walk f p t e = go (sectionPart f p) refl
+  where
+    go : (x : Got Place) → sectionPart f p ≡ x → Walk f p t
+    go (refused g) h = let k = steps (poolAt f p) e in never (section-refused f p (constants (byPlace p)) g (sym h) ∙ k .first)
+    go (found q) h =
+        let k = steps (poolAt f p) e in
+        let g = section-found f p (constants (byPlace p)) q (sym h) in
+        record {
+          steps = λ u. ap (λ x. stepBy f x (constant (byPlace p)) u) h ∙ rw (g .same);
+          gives = walk-gives p (cut f p) (k .item) t (sym (g .reads) ∙ k .first) (same-found (k .second)) ∙ sym (k .first);
+        }
+
+pub laws : Laws
+laws = record { walk = walk }

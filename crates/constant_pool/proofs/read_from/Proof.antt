@@ -1,0 +1,31 @@
+-- `constant_pool::read_from` meets its contract: strings kept by their bytes or by their places, there are as many constants.
+use mathlib.Core.Path.{subst}
+use denote.Ref.{now}
+use Rattle.base.specs.Error.{faultOf}
+use Rattle.constant_pool.specs.Answers.{TableAs}
+use Rattle.constant_pool.proofs.Pool.{count-refused, count-found}
+use borrow.Author.Needs.{needs}
+use Rattle.constant_pool.proofs.read_from.Statement.{statement}
+use Rattle.constant_pool.proofs.read_from.Tie as tie
+
+returns : tie.Need-returns
+returns c =
+    let s = now (c .before .before .before .before .before .args .s) in
+    let v = c .before .e .given in
+    count-refused s (faultOf (v .0 .0)) (subst (TableAs 0 s) (v .1) (c .before .before .before .table .ensures))
+
+returns-2 : tie.Need-returns-2
+returns-2 c =
+    let s = now (c .before .before .before .before .before .args .s) in
+    let v = c .before .t .given in
+    count-found s (v .0 .0) (subst (TableAs 0 s) (v .1) (c .before .before .before .table .ensures))
+
+pub read-from-spec : {M : Type 1} → statement M
+read-from-spec =
+    tie.close
+    (tie.spec
+    (λ c κs. search needs)
+    (λ c. search needs)
+    (λ c. search needs)
+    returns
+    returns-2)

@@ -1,0 +1,131 @@
+-- What the code's answers mean, and what holds of the parts in them.
+use Prim.Native.Nat.{ℕ, _+_, _≤_}
+use mathlib.Core.List.{List}
+use mathlib.Core.Path.{_≡_}
+use lib.IntN.{ℤ}
+use Rattle.reading.specs.Numbers.{bytesLe}
+use Rattle.reading.specs.Reader.{fault, got}
+use Rattle.reading.specs.Answer.{Got, refused, found}
+use Rattle.reading.specs.Places.{Step, stops, item, Way, stopsBy, onTo, Holds, Next, ends, faulty, entry}
+use Rattle.reading.specs.declared.Table.{Table}
+use Rattle.format.specs.Parts.{Place, byPlace}
+use Rattle.format.specs.Constants as format
+use Rattle.format.specs.Constants.{Constant, number, string, constants}
+use Rattle.base.specs.Error.{faultOf}
+use Rattle.base.specs.Small.{constTypeNumber, byteWidth}
+use Rattle.base.specs.Section.{partIn}
+use Rattle.base.specs.declared.section.StartAnswer.{StartAnswer}
+use Rattle.base.specs.declared.section.StartAnswer.the-variants as start
+use Rattle.base.specs.declared.section.Walk.{Walk}
+use Rattle.base.specs.declared.section.Walk.the-variants as walk
+use Rattle.constant_pool.specs.Lookups.{placeOf, constantOver}
+use Rattle.constant_pool.specs.declared.Kept.{Kept}
+use Rattle.constant_pool.specs.declared.Kept.the-variants as kept
+use Rattle.constant_pool.specs.declared.ConstEntry.{ConstEntry}
+use Rattle.constant_pool.specs.declared.ConstStep.{ConstStep}
+use Rattle.constant_pool.specs.declared.ConstStep.the-variants as step
+use Rattle.constant_pool.specs.declared.CountAnswer.{CountAnswer}
+use Rattle.constant_pool.specs.declared.CountAnswer.the-variants as count
+use Rattle.constant_pool.specs.declared.ConstAnswer.{ConstAnswer}
+use Rattle.constant_pool.specs.declared.ConstAnswer.the-variants as answer
+use Rattle.constant_pool.specs.declared.ConstNext.{ConstNext}
+use Rattle.constant_pool.specs.declared.ConstNext.the-variants as next
+use Rattle.constant_pool.specs.declared.U32Answer.{U32Answer}
+use Rattle.constant_pool.specs.declared.U32Answer.the-variants as u32
+use Rattle.constant_pool.specs.declared.U64Answer.{U64Answer}
+use Rattle.constant_pool.specs.declared.U64Answer.the-variants as u64
+use Rattle.constant_pool.specs.declared.I32Answer.{I32Answer}
+use Rattle.constant_pool.specs.declared.I32Answer.the-variants as i32
+use Rattle.constant_pool.specs.declared.I64Answer.{I64Answer}
+use Rattle.constant_pool.specs.declared.I64Answer.the-variants as i64
+use Rattle.constant_pool.specs.declared.WidthAnswer.{WidthAnswer}
+use Rattle.constant_pool.specs.declared.WidthAnswer.the-variants as width
+
+-- a constant; of a number the eight bytes, of a string the place in the file
+abbrev pub keptIn : Kept → format.Kept Place
+keptIn (kept.Number n) = number (bytesLe 8 n)
+keptIn (kept.Part p) = string (partIn p)
+
+abbrev pub entryIn : ConstEntry → Constant Place
+entryIn c = record { kind = constTypeNumber (c .«const_type»); kept = keptIn (c .kept) }
+
+-- a string ends at `most` or before it
+abbrev pub KeptEnds : ℕ → Kept → Type 0
+KeptEnds most (kept.Number n) = Unit {0}
+KeptEnds most (kept.Part p) = p .offset + p .size ≤ most
+
+-- an entry read at a place
+abbrev pub stepFrom : ConstStep → Step (Constant Place)
+stepFrom (step.Refused e) = stops (faultOf e)
+stepFrom (step.Entry c m) = item (entryIn c) m
+
+abbrev pub StepEnds : ℕ → ConstStep → Type 0
+StepEnds most (step.Refused e) = Unit {0}
+StepEnds most (step.Entry c m) = KeptEnds most (c .kept)
+
+-- entries passed over
+abbrev pub wayFrom : Walk → Way
+wayFrom (walk.Refused e) = stopsBy (faultOf e)
+wayFrom (walk.At m) = onTo m
+
+-- the entries of the section `s`, behind the count
+pub record Readable (base : ℕ) (s : List ℕ) (t : Table) : Type 0 where
+  pub first : t .at ≡ 2
+  pub entries : List (Constant Place)
+  pub rest : List ℕ
+  pub reads : constants (byPlace (placeOf base s)) s ≡ got entries rest
+  pub holds : Holds (constantOver base s) s t entries
+
+abbrev pub TableAs : ℕ → List ℕ → StartAnswer → Type 0
+TableAs base s (start.Refused e) = constants (byPlace (placeOf base s)) s ≡ fault (faultOf e)
+TableAs base s (start.Start t) = Readable base s t
+
+abbrev pub countFrom : CountAnswer → Got ℕ
+countFrom (count.Refused e) = refused (faultOf e)
+countFrom (count.Count n) = found n
+
+-- The lookups
+
+abbrev pub constFrom : ConstAnswer → Got (Constant Place)
+constFrom (answer.Refused e) = refused (faultOf e)
+constFrom (answer.Entry c) = found (entryIn c)
+
+abbrev pub ConstEnds : ℕ → ConstAnswer → Type 0
+ConstEnds most (answer.Refused e) = Unit {0}
+ConstEnds most (answer.Entry c) = KeptEnds most (c .kept)
+
+-- a number as its eight bytes
+abbrev pub keptFrom : U64Answer → Got (List ℕ)
+keptFrom (u64.Refused e) = refused (faultOf e)
+keptFrom (u64.Value n) = found (bytesLe 8 n)
+
+abbrev pub u32From : U32Answer → Got ℕ
+u32From (u32.Refused e) = refused (faultOf e)
+u32From (u32.Value n) = found n
+
+abbrev pub u64From : U64Answer → Got ℕ
+u64From (u64.Refused e) = refused (faultOf e)
+u64From (u64.Value n) = found n
+
+abbrev pub i32From : I32Answer → Got ℤ
+i32From (i32.Refused e) = refused (faultOf e)
+i32From (i32.Value n) = found n
+
+abbrev pub i64From : I64Answer → Got ℤ
+i64From (i64.Refused e) = refused (faultOf e)
+i64From (i64.Value n) = found n
+
+abbrev pub widthFrom : WidthAnswer → Got ℕ
+widthFrom (width.Refused e) = refused (faultOf e)
+widthFrom (width.Width w) = found (byteWidth w)
+
+-- one step of a walk over the constants
+abbrev pub constNextFrom : ConstNext → Next (Constant Place)
+constNextFrom next.End = ends
+constNextFrom (next.Refused e) = faulty (faultOf e)
+constNextFrom (next.Entry c t) = entry (entryIn c) t
+
+abbrev pub NextEnds : ℕ → ConstNext → Type 0
+NextEnds most next.End = Unit {0}
+NextEnds most (next.Refused e) = Unit {0}
+NextEnds most (next.Entry c t) = KeptEnds most (c .kept)

@@ -1,0 +1,457 @@
+// The constant pool of a container: read, looked up in and walked over, where it lies in the file.
+ghost use mathlib.Core.Path.{_≡_};
+ghost use mathlib.Core.Bool.{true};
+ghost use Prim.Native.Nat.{_+_, _^_, _≤_, _<_};
+ghost use lib.ListN.{length, take, drop};
+ghost use Rattle.reading.specs.Numbers.{le};
+ghost use Rattle.reading.specs.Reader.{many};
+ghost use Rattle.reading.specs.Places.{Reads, Goes, stepOf};
+ghost use Rattle.format.specs.Constants.{sizeFits, signed};
+ghost use Rattle.base.specs.Small.{constTypeNumber};
+ghost use Rattle.base.specs.Section.{placeIn, partFrom, PartWithin, startFrom, bytesOr};
+ghost use Rattle.constant_pool.specs.Answers.{keptIn, KeptEnds, wayFrom, stepFrom, StepEnds, TableAs, countFrom, constFrom, ConstEnds, constNextFrom, NextEnds, keptFrom, u32From, u64From, i32From, i64From, widthFrom};
+ghost use Rattle.constant_pool.specs.Lookups.{constantOver, keptOver, poolCount, constantIn, constantAt, keptAt, numberAt, i32At, u32At, i64At, u64At, f32At, f64At, stringAt, charWidthAt, startAt, nextConstantAt};
+ghost use Rattle.constant_pool.specs.Laws.{Laws};
+use base::char_width::CharWidth;
+use base::const_type::ConstType;
+use base::const_type::ConstTypeAnswer;
+use base::const_type::MaybeCharWidth;
+use base::error::ContainerError;
+use base::id_types::ConstantIndex;
+use base::section::Part;
+use base::section::PartAnswer;
+use base::section::Section;
+use base::section::StartAnswer;
+use base::section::Walk;
+use base::section::section_part;
+use reading::Table;
+use reading::u8_at;
+use reading::u16_at;
+
+// An entry's type, width tag and size.
+const HEAD_SIZE: usize = 4;
+
+// What is kept of a constant.
+pub enum Kept {
+    // Of a number its eight bytes, low byte first.
+    Number(u64),
+    // Of a string its part of the file.
+    Part(Part),
+}
+
+pub struct ConstEntry {
+    pub const_type: ConstType,
+    pub kept: Kept,
+}
+
+// An entry read at a place, and where it ends.
+pub enum ConstStep {
+    Refused(ContainerError),
+    Entry(ConstEntry, usize),
+}
+
+pub enum CountAnswer {
+    Refused(ContainerError),
+    Count(usize),
+}
+
+pub enum ConstAnswer {
+    Refused(ContainerError),
+    Entry(ConstEntry),
+}
+
+// One step of a walk over the pool.
+pub enum ConstNext {
+    End,
+    Refused(ContainerError),
+    Entry(ConstEntry, Table),
+}
+
+pub enum U32Answer {
+    Refused(ContainerError),
+    Value(u32),
+}
+
+pub enum U64Answer {
+    Refused(ContainerError),
+    Value(u64),
+}
+
+pub enum I32Answer {
+    Refused(ContainerError),
+    Value(i32),
+}
+
+pub enum I64Answer {
+    Refused(ContainerError),
+    Value(i64),
+}
+
+pub enum WidthAnswer {
+    Refused(ContainerError),
+    Width(CharWidth),
+}
+
+// A number of at most eight bytes.
+fn le_of(b: &[u8]) -> u64
+    requires { ⌜ length (now b) ≤ 8 ⌝ }
+    ensures { λ r. ⌜ r ≡ le (now (b .entry)) ⌝ }
+{
+    let mut n: u64 = 0;
+    let mut i = b.len();
+    while i > 0 {
+        i -= 1;
+        let byte = b[i] as u64;
+        n = 256 * n + byte;
+    }
+    n
+}
+
+// A number has at most eight bytes.
+fn size_fits(const_type: ConstType, size: usize) -> bool
+    ensures { λ r. ⌜ r ≡ sizeFits (constTypeNumber «const_type») size ⌝ }
+{
+    if const_type.is_string_like() {
+        return true;
+    }
+    size <= 8
+}
+
+// What is kept of the `size` bytes at the place `at` of the section `s`, which starts at `base` of the file.
+fn kept_at(s: &[u8], base: usize, at: usize, const_type: ConstType, size: usize) -> Kept
+    requires { ⌜ (at + size ≤ length (now s)) × (base + length (now s) < 2 ^ 64) ⌝ }
+    requires { ⌜ sizeFits (constTypeNumber «const_type») size ≡ true ⌝ }
+    ensures { λ r. ⌜ (keptIn r ≡ keptOver base (now (s .entry)) (constTypeNumber «const_type») at size) × KeptEnds (base + length (now (s .entry))) r ⌝ }
+{
+    if const_type.is_string_like() {
+        return Kept::Part(Part {
+            offset: base + at,
+            size,
+        });
+    }
+    Kept::Number(le_of(&s[at..at + size]))
+}
+
+// The entry at the place `at` of the section `s`, which starts at `base` of the file.
+fn read_entry(s: &[u8], base: usize, at: usize) -> ConstStep
+    requires { ⌜ (at ≤ length (now s)) × (base + length (now s) < 2 ^ 64) ⌝ }
+    ensures { λ r. ⌜ Reads (constantOver base (now (s .entry))) (now (s .entry)) at (stepFrom r) × StepEnds (base + length (now (s .entry))) r ⌝ }
+{
+    if s.len() - at < HEAD_SIZE {
+        return ConstStep::Refused(ContainerError::ShortInput);
+    }
+    let size = u16_at(s, at + 2) as usize;
+    match ConstType::from_u8(u8_at(s, at)) {
+        ConstTypeAnswer::Refused(e) => ConstStep::Refused(e),
+        ConstTypeAnswer::Type(const_type) => {
+            if size_fits(const_type, size) {
+                let place = at + HEAD_SIZE;
+                if s.len() - place < size {
+                    return ConstStep::Refused(ContainerError::ShortInput);
+                }
+                let kept = kept_at(s, base, place, const_type, size);
+                return ConstStep::Entry(ConstEntry { const_type, kept }, place + size);
+            }
+            ConstStep::Refused(ContainerError::InvalidConstantType(const_type.number()))
+        }
+    }
+}
+
+// A walk over the `n` entries from `at` on.
+fn skip(s: &[u8], base: usize, at: usize, n: usize) -> Walk
+    requires { ⌜ (at ≤ length (now s)) × (base + length (now s) < 2 ^ 64) ⌝ }
+    ensures { λ r. ⌜ Goes (many n (constantOver base (now (s .entry)))) (now (s .entry)) at (wayFrom r) ⌝ }
+{
+    let mut p = at;
+    let mut i = 0;
+    while i < n {
+        match read_entry(s, base, p) {
+            ConstStep::Refused(e) => {
+                return Walk::Refused(e);
+            }
+            ConstStep::Entry(_, m) => {
+                p = m;
+                i += 1;
+            }
+        }
+    }
+    Walk::At(p)
+}
+
+// The entries of the section `s`, all of them readable.
+fn table(s: &[u8], base: usize) -> StartAnswer
+    requires { ⌜ base + length (now s) < 2 ^ 64 ⌝ }
+    ensures { λ r. ⌜ TableAs base (now (s .entry)) r ⌝ }
+{
+    if s.len() < 2 {
+        return StartAnswer::Refused(ContainerError::ShortInput);
+    }
+    let count = u16_at(s, 0) as usize;
+    match skip(s, base, 2, count) {
+        Walk::Refused(e) => StartAnswer::Refused(e),
+        Walk::At(_) => StartAnswer::Start(Table { at: 2, count }),
+    }
+}
+
+// The section's reader: its refusal, or how many constants there are.
+pub fn read_from(s: &[u8]) -> CountAnswer
+    ensures { λ r. ⌜ countFrom r ≡ poolCount (now (s .entry)) ⌝ }
+{
+    match table(s, 0) {
+        StartAnswer::Refused(e) => CountAnswer::Refused(e),
+        StartAnswer::Start(t) => CountAnswer::Count(t.count),
+    }
+}
+
+// The constant at an index of the section `s`, which starts at `base` of the file.
+fn find(s: &[u8], base: usize, index: ConstantIndex) -> ConstAnswer
+    requires { ⌜ base + length (now s) < 2 ^ 64 ⌝ }
+    ensures { λ r. ⌜ (constFrom r ≡ constantIn base (now (s .entry)) (index .0)) × ConstEnds (base + length (now (s .entry))) r ⌝ }
+{
+    match table(s, base) {
+        StartAnswer::Refused(e) => ConstAnswer::Refused(e),
+        StartAnswer::Start(t) => {
+            let at = t.at;
+            let count = t.count;
+            let k = index.0 as usize;
+            if k >= count {
+                return ConstAnswer::Refused(ContainerError::InvalidConstantIndex(index));
+            }
+            match skip(s, base, at, k) {
+                Walk::Refused(e) => ConstAnswer::Refused(e),
+                Walk::At(p) => match read_entry(s, base, p) {
+                    ConstStep::Refused(e) => ConstAnswer::Refused(e),
+                    ConstStep::Entry(c, _) => ConstAnswer::Entry(c),
+                },
+            }
+        }
+    }
+}
+
+// The constant at an index; a string by its part of the file.
+pub fn entry(file: &[u8], section: Section, index: ConstantIndex) -> ConstAnswer
+    ensures { λ r. ⌜ (constFrom r ≡ constantAt (now (file .entry)) (placeIn section) (index .0)) × ConstEnds (length (now (file .entry))) r ⌝ }
+{
+    match section_part(file, section) {
+        PartAnswer::Refused(e) => ConstAnswer::Refused(e),
+        PartAnswer::Part(p) => {
+            let start = p.offset;
+            let end = start + p.size;
+            find(&file[start..end], start, index)
+        }
+    }
+}
+
+// The eight kept bytes of a constant of the type `expected`; another type is refused.
+fn kept_bytes(file: &[u8], section: Section, index: ConstantIndex, expected: ConstType) -> U64Answer
+    ensures { λ r. ⌜ keptFrom r ≡ keptAt (now (file .entry)) (placeIn section) (constTypeNumber expected) (index .0) ⌝ }
+{
+    match entry(file, section, index) {
+        ConstAnswer::Refused(e) => U64Answer::Refused(e),
+        ConstAnswer::Entry(c) => {
+            let const_type = c.const_type;
+            let kept = c.kept;
+            let stored = const_type.number();
+            if stored != expected.number() {
+                return U64Answer::Refused(ContainerError::InvalidConstantType(stored));
+            }
+            match kept {
+                Kept::Number(n) => U64Answer::Value(n),
+                Kept::Part(_) => U64Answer::Refused(ContainerError::InvalidConstantType(stored)),
+            }
+        }
+    }
+}
+
+// The number that the first four kept bytes are.
+fn number32(file: &[u8], section: Section, index: ConstantIndex, expected: ConstType) -> U32Answer
+    ensures { λ r. ⌜ u32From r ≡ numberAt (now (file .entry)) (placeIn section) (constTypeNumber expected) 4 (index .0) ⌝ }
+{
+    match kept_bytes(file, section, index, expected) {
+        U64Answer::Refused(e) => U32Answer::Refused(e),
+        U64Answer::Value(n) => U32Answer::Value((n % 4294967296) as u32),
+    }
+}
+
+// The number that all eight are.
+fn number64(file: &[u8], section: Section, index: ConstantIndex, expected: ConstType) -> U64Answer
+    ensures { λ r. ⌜ u64From r ≡ numberAt (now (file .entry)) (placeIn section) (constTypeNumber expected) 8 (index .0) ⌝ }
+{
+    match kept_bytes(file, section, index, expected) {
+        U64Answer::Refused(e) => U64Answer::Refused(e),
+        U64Answer::Value(n) => U64Answer::Value(n),
+    }
+}
+
+// Two's complement.
+fn signed32(n: u32) -> i32
+    ensures { λ r. ⌜ r ≡ signed 2147483648 n ⌝ }
+{
+    if n < 2147483648 {
+        return n as i32;
+    }
+    let d = 4294967295 - n;
+    -1 - (d as i32)
+}
+
+fn signed64(n: u64) -> i64
+    ensures { λ r. ⌜ r ≡ signed 9223372036854775808 n ⌝ }
+{
+    if n < 9223372036854775808 {
+        return n as i64;
+    }
+    let d = 18446744073709551615 - n;
+    -1 - (d as i64)
+}
+
+pub fn get_i32(file: &[u8], section: Section, index: ConstantIndex) -> I32Answer
+    ensures { λ r. ⌜ i32From r ≡ i32At (now (file .entry)) (placeIn section) (index .0) ⌝ }
+{
+    match number32(file, section, index, ConstType::I32) {
+        U32Answer::Refused(e) => I32Answer::Refused(e),
+        U32Answer::Value(n) => I32Answer::Value(signed32(n)),
+    }
+}
+
+pub fn get_u32(file: &[u8], section: Section, index: ConstantIndex) -> U32Answer
+    ensures { λ r. ⌜ u32From r ≡ u32At (now (file .entry)) (placeIn section) (index .0) ⌝ }
+{
+    number32(file, section, index, ConstType::U32)
+}
+
+pub fn get_i64(file: &[u8], section: Section, index: ConstantIndex) -> I64Answer
+    ensures { λ r. ⌜ i64From r ≡ i64At (now (file .entry)) (placeIn section) (index .0) ⌝ }
+{
+    match number64(file, section, index, ConstType::I64) {
+        U64Answer::Refused(e) => I64Answer::Refused(e),
+        U64Answer::Value(n) => I64Answer::Value(signed64(n)),
+    }
+}
+
+pub fn get_u64(file: &[u8], section: Section, index: ConstantIndex) -> U64Answer
+    ensures { λ r. ⌜ u64From r ≡ u64At (now (file .entry)) (placeIn section) (index .0) ⌝ }
+{
+    number64(file, section, index, ConstType::U64)
+}
+
+// The bits of a float.
+pub fn get_f32(file: &[u8], section: Section, index: ConstantIndex) -> U32Answer
+    ensures { λ r. ⌜ u32From r ≡ f32At (now (file .entry)) (placeIn section) (index .0) ⌝ }
+{
+    number32(file, section, index, ConstType::F32)
+}
+
+pub fn get_f64(file: &[u8], section: Section, index: ConstantIndex) -> U64Answer
+    ensures { λ r. ⌜ u64From r ≡ f64At (now (file .entry)) (placeIn section) (index .0) ⌝ }
+{
+    number64(file, section, index, ConstType::F64)
+}
+
+// A string, Str or WStr, by its part of the file.
+pub fn string_part(file: &[u8], section: Section, index: ConstantIndex) -> PartAnswer
+    ensures { λ r. ⌜ (partFrom r ≡ stringAt (now (file .entry)) (placeIn section) (index .0)) × PartWithin (now (file .entry)) r ⌝ }
+{
+    match entry(file, section, index) {
+        ConstAnswer::Refused(e) => PartAnswer::Refused(e),
+        ConstAnswer::Entry(c) => {
+            let const_type = c.const_type;
+            let kept = c.kept;
+            match kept {
+                Kept::Number(_) => {
+                    PartAnswer::Refused(ContainerError::InvalidConstantType(const_type.number()))
+                }
+                Kept::Part(p) => PartAnswer::Part(p),
+            }
+        }
+    }
+}
+
+// A string: that part of the file, and an empty part where `string_part` refuses.
+pub fn get_str(file: &[u8], section: Section, index: ConstantIndex) -> &[u8]
+    ensures { λ r. ⌜ now r ≡ bytesOr (now (file .entry)) (stringAt (now (file .entry)) (placeIn section) (index .0)) ⌝ }
+{
+    match string_part(file, section, index) {
+        PartAnswer::Refused(_) => &file[0..0],
+        PartAnswer::Part(p) => {
+            let start = p.offset;
+            let end = start + p.size;
+            &file[start..end]
+        }
+    }
+}
+
+// Bytes to a character of a string.
+pub fn char_width(file: &[u8], section: Section, index: ConstantIndex) -> WidthAnswer
+    ensures { λ r. ⌜ widthFrom r ≡ charWidthAt (now (file .entry)) (placeIn section) (index .0) ⌝ }
+{
+    match entry(file, section, index) {
+        ConstAnswer::Refused(e) => WidthAnswer::Refused(e),
+        ConstAnswer::Entry(c) => {
+            let const_type = c.const_type;
+            match const_type.char_width() {
+                MaybeCharWidth::None => {
+                    WidthAnswer::Refused(ContainerError::InvalidConstantType(const_type.number()))
+                }
+                MaybeCharWidth::Some(w) => WidthAnswer::Width(w),
+            }
+        }
+    }
+}
+
+// Where a walk over the constants starts.
+pub fn constants(file: &[u8], section: Section) -> StartAnswer
+    ensures { λ r. ⌜ startFrom r ≡ startAt (now (file .entry)) (placeIn section) ⌝ }
+{
+    match section_part(file, section) {
+        PartAnswer::Refused(e) => StartAnswer::Refused(e),
+        PartAnswer::Part(p) => {
+            let start = p.offset;
+            let end = start + p.size;
+            table(&file[start..end], start)
+        }
+    }
+}
+
+// The next constant of a walk over the section `s`, which starts at `base` of the file.
+fn next_in(s: &[u8], base: usize, t: Table) -> ConstNext
+    requires { ⌜ base + length (now s) < 2 ^ 64 ⌝ }
+    ensures { λ r. ⌜ (constNextFrom r ≡ stepOf (constantOver base (now (s .entry))) (now (s .entry)) t) × NextEnds (base + length (now (s .entry))) r ⌝ }
+{
+    let at = t.at;
+    let count = t.count;
+    if count == 0 {
+        return ConstNext::End;
+    }
+    if s.len() < at {
+        return ConstNext::Refused(ContainerError::ShortInput);
+    }
+    match read_entry(s, base, at) {
+        ConstStep::Refused(e) => ConstNext::Refused(e),
+        ConstStep::Entry(c, m) => ConstNext::Entry(
+            c,
+            Table {
+                at: m,
+                count: count - 1,
+            },
+        ),
+    }
+}
+
+// The next constant of a walk.
+pub fn next_constant(file: &[u8], section: Section, t: Table) -> ConstNext
+    ensures { λ r. ⌜ (constNextFrom r ≡ nextConstantAt (now (file .entry)) (placeIn section) t) × NextEnds (length (now (file .entry))) r ⌝ }
+{
+    match section_part(file, section) {
+        PartAnswer::Refused(e) => ConstNext::Refused(e),
+        PartAnswer::Part(p) => {
+            let start = p.offset;
+            let end = start + p.size;
+            next_in(&file[start..end], start, t)
+        }
+    }
+}
+
+// The claims of `specs/Laws.antt` hold. There is no code: the contract makes the check prove them.
+pub fn laws_hold()
+    ensures { λ _. ⌜ Laws ⌝ }
+{}

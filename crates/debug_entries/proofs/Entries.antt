@@ -1,0 +1,147 @@
+-- Each entry at a place of the section: what each test of the code says of it. Numbers are given as the code has read them.
+use mathlib.Core.Path.{_≡_, refl, sym, ap, _∙_}
+use mathlib.Core.List.{List}
+use Prim.Native.Nat.{ℕ, _+_, _-_, _≤_, _<_}
+use native.Mathlib.Omega.{arith}
+use lib.ListN.{length, take, drop, length-drop}
+use Rattle.reading.specs.Fault.{Fault, shortInput}
+use Rattle.reading.specs.Numbers.{leAt}
+use Rattle.reading.specs.Reader.{fault, got, Reader, next, _>>=_, give, many}
+use Rattle.reading.specs.Answer.{Got, indexed, _>>=_ as _then_}
+use Rattle.reading.specs.Places.{Step, stops, item, Reads, onTo, Goes, Holds}
+use Rattle.reading.proofs.Reading.{bytes-at, bytes-short, number-at}
+use Rattle.reading.proofs.Width.{Needs, needs-bind, needs-none, Fixed, fixed-bind, fixed-give, fixed-number}
+use Rattle.reading.proofs.Passing.{reads-told, counted-short, counted-as}
+use Rattle.format.specs.Faults.{noEntry}
+use Rattle.format.specs.Parts.{Keep}
+use Rattle.format.specs.Debug.{name, path, Variable, variable, functionName, stringLayout, sourceFile, Enumeration, enumeration}
+use Rattle.debug_entries.specs.Answers.{itemsOf}
+use Rattle.debug_text.specs.Picked.{picked}
+use Rattle.debug_entries.specs.Lookups.{pickedValue}
+use Rattle.debug_text.proofs.Texts.{name-needs, path-needs}
+use Rattle.debug_text.proofs.Walks.{onStep, reads-stop, reads-on}
+
+-- What an entry needs to be there
+
+module _ {T : Type 0} (keep : Keep T) where
+  pub func-needs : Needs 2 (functionName keep)
+  unfolding functionName
+  func-needs = needs-bind (fixed-number 2) (λ i. needs-none _)
+
+  pub var-needs : Needs 6 (variable keep)
+  unfolding variable
+  var-needs =
+      needs-bind (fixed-number 2) λ i.
+      needs-bind (fixed-number 2) λ f.
+      needs-bind (fixed-number 1) λ c.
+      needs-bind (fixed-number 1) λ t. needs-none _
+
+  pub file-needs : Needs 2 (sourceFile keep)
+  unfolding sourceFile
+  file-needs s h = rw (path-needs keep s h)
+
+  pub enum-needs : Needs 1 (enumeration keep)
+  unfolding enumeration
+  enum-needs s h = rw (name-needs keep s h)
+
+pub layout-fixed : Fixed 8 stringLayout
+unfolding stringLayout
+layout-fixed =
+    fixed-bind (fixed-number 2) λ v.
+    fixed-bind (fixed-number 4) λ o.
+    fixed-bind (fixed-number 2) λ l. fixed-give _
+
+-- String layouts
+
+module _ (s : List ℕ) (at : ℕ) where
+  pub layout-read : (v o l : ℕ) → at + 8 ≤ length s → v ≡ leAt 2 s at → o ≡ leAt 4 s (at + 2) → l ≡ leAt 2 s (at + 6)
+      → stringLayout (drop at s) ≡ got (record { variable = v; dataOffset = o; maxLength = l }) (drop (at + 8) s)
+  unfolding stringLayout
+  layout-read v o l h p q r =
+      rw (
+        p,
+        q,
+        r,
+        number-at 2 s at (at + 2) refl (omega arith),
+        number-at 4 s (at + 2) (at + 6) (omega arith) (omega arith),
+        number-at 2 s (at + 6) (at + 8) (omega arith) h,
+      )
+
+-- The others, with what stands for a name or a path
+
+-- what of a variable stands behind its name
+abbrev typeNamed : {T : Type 0} → Keep T → ℕ → ℕ → ℕ → ℕ → T → Reader (Variable T)
+typeNamed keep i f c t x = name keep >>= λ y. give (record { index = i; function = f; section = c; typeTag = t; named = x; typeName = y })
+
+module _ {T : Type 0} (keep : Keep T) (s : List ℕ) (at : ℕ) where
+  pub func-read : (id : ℕ) {v w : Step T} → at + 2 ≤ length s → id ≡ leAt 2 s at → v ≡ w → Reads (name keep) s (at + 2) v
+      → Reads (functionName keep) s at (onStep (λ x. record { id = id; named = x }) w)
+  unfolding functionName
+  func-read id h i e g = reads-on (functionName keep) s at (name keep) (at + 2) _ (rw (number-at 2 s at (at + 2) refl h, i)) e g
+
+  -- a source file's path, and the hash behind it
+  pub file-stop : (f : Fault) {v : Step T} → v ≡ stops f → Reads (path keep) s at v → sourceFile keep (drop at s) ≡ fault f
+  unfolding sourceFile
+  file-stop f e g = rw (reads-told (path keep) s at e g)
+
+  module _ (x : T) (p : ℕ) {v : Step T} (e : v ≡ item x p) (g : Reads (path keep) s at v) where
+    pub file-short : length s - p < 32 → sourceFile keep (drop at s) ≡ fault shortInput
+    unfolding sourceFile
+    file-short h = let l = length-drop p s in rw (reads-told (path keep) s at e g .1, bytes-short 32 (drop p s) (omega arith))
+
+    pub file-read : (hash : List ℕ) → p + 32 ≤ length s → hash ≡ take 32 (drop p s) → sourceFile keep (drop at s) ≡ got (record { located = x; hash = hash }) (drop (p + 32) s)
+    unfolding sourceFile
+    file-read hash h i = rw (reads-told (path keep) s at e g .1, bytes-at 32 s p (p + 32) refl h, i)
+
+  -- a variable's numbers, and the two names behind them
+  module _ (i f c t : ℕ) (h : at + 6 ≤ length s) (pi : i ≡ leAt 2 s at) (pf : f ≡ leAt 2 s (at + 2)) (pc : c ≡ leAt 1 s (at + 4)) (pt : t ≡ leAt 1 s (at + 5)) where
+    var-at : variable keep (drop at s) ≡ next (name keep (drop (at + 6) s)) (typeNamed keep i f c t)
+    unfolding variable
+    var-at =
+        rw (
+          pi,
+          pf,
+          pc,
+          pt,
+          number-at 2 s at (at + 2) refl (omega arith),
+          number-at 2 s (at + 2) (at + 4) (omega arith) (omega arith),
+          number-at 1 s (at + 4) (at + 5) (omega arith) (omega arith),
+          number-at 1 s (at + 5) (at + 6) (omega arith) h,
+        )
+
+    pub var-stop : (z : Fault) {v : Step T} → v ≡ stops z → Reads (name keep) s (at + 6) v → variable keep (drop at s) ≡ fault z
+    var-stop z e g = reads-stop (variable keep) s at (name keep) (at + 6) (typeNamed keep i f c t) z var-at e g
+
+    pub var-read : (x : T) (p : ℕ) {u v w : Step T} → u ≡ item x p → Reads (name keep) s (at + 6) u → v ≡ w → Reads (name keep) s p v
+        → Reads (variable keep) s at (onStep (λ y. record { index = i; function = f; section = c; typeTag = t; named = x; typeName = y }) w)
+    var-read x p d k e g = reads-on (variable keep) s at (name keep) p _ (rw (var-at, reads-told (name keep) s (at + 6) d k .1)) e g
+
+  -- an enumeration's name, its count, and the values' names
+  pub enum-stop : (f : Fault) {v : Step T} → v ≡ stops f → Reads (name keep) s at v → enumeration keep (drop at s) ≡ fault f
+  unfolding enumeration
+  enum-stop f e g = rw (reads-told (name keep) s at e g)
+
+  module _ (x : T) (p : ℕ) {v : Step T} (e : v ≡ item x p) (g : Reads (name keep) s at v) where
+    pub enum-short : length s - p < 2 → enumeration keep (drop at s) ≡ fault shortInput
+    unfolding enumeration
+    enum-short h = rw (reads-told (name keep) s at e g .1, counted-short (name keep) s p h)
+
+    module _ (n : ℕ) (h : p + 2 ≤ length s) (i : n ≡ leAt 2 s p) where
+      pub enum-fault : (f : Fault) → many n (name keep) (drop (p + 2) s) ≡ fault f → enumeration keep (drop at s) ≡ fault f
+      unfolding enumeration
+      enum-fault f k = rw (reads-told (name keep) s at e g .1, counted-as (name keep) s p n h i, k)
+
+      abbrev pub values : List T
+      values = itemsOf (many n (name keep) (drop (p + 2) s))
+
+      pub enum-read : (m : ℕ) → Goes (many n (name keep)) s (p + 2) (onTo m)
+          → Reads (enumeration keep) s at (item (record { named = x; values = values }) m) × Holds (name keep) s (record { at = p + 2; count = n }) values
+      unfolding enumeration
+      enum-read m k =
+          let z = k .1 .1 ∙ ap (λ y. got (itemsOf y) (drop m s)) (sym (k .1 .1)) in
+          ((k .0, rw (reads-told (name keep) s at e g .1, counted-as (name keep) s p n h i, z)), record { within = h; rest = drop m s; reads = z })
+
+-- the value of an enumeration that a lookup gave
+pub values-then : {T : Type 0} (keep : Keep T) (s : List ℕ) (at n k j : ℕ) {g : Got (Enumeration T)} → g ≡ picked (enumeration keep) s at n k
+    → (g then λ e. indexed noEntry (e .values) j) ≡ pickedValue keep s at n k j
+values-then keep s at n k j h = ap (λ g. g then λ e. indexed noEntry (e .values) j) h

@@ -1,0 +1,48 @@
+-- `debug_entries::enum_defs::read_enum_def` meets its contract: the name, the count, and a walk over the values' names.
+use mathlib.Core.Path.{ap}
+use native.Mathlib.Omega.{arith}
+use Rattle.reading.proofs.Passing.{goes-told, reads-told}
+use Rattle.debug_text.specs.Answers.{wayOf, textStep}
+use Rattle.debug_entries.proofs.Entries.{enum-stop, enum-short, enum-fault, enum-read}
+use borrow.Author.Needs.{needs}
+use Rattle.debug_entries.proofs.enum_defs.read_enum_def.Statement.{statement}
+use Rattle.debug_entries.proofs.enum_defs.read_enum_def.Tie as tie
+
+-- the name ends in the section
+sub-if1 : tie.Need-sub-if1
+sub-if1 c = reads-told _ _ _ (ap textStep (c .before .type-name .given .1)) (c .before .before .before .read-name .ensures) .0
+
+returns : tie.Need-returns
+returns c = (enum-short _ _ _ _ _ (ap textStep (c .before .before .type-name .given .1)) (c .before .before .before .before .read-name .ensures) (c .if1 .taken), tt)
+
+returns-2 : tie.Need-returns-2
+returns-2 c = (enum-stop _ _ _ _ (ap textStep (c .before .e .given .1)) (c .before .before .before .read-name .ensures), tt)
+
+returns-3 : tie.Need-returns-3
+returns-3 c =
+    let l = reads-told _ _ _ (ap textStep (c .before .before .before .before .before .before .before .type-name .given .1)) (c .before .before .before .before .before .before .before .before .before .read-name .ensures) .0 in
+    (enum-fault _ _ _ _ _ (ap textStep (c .before .before .before .before .before .before .before .type-name .given .1)) (c .before .before .before .before .before .before .before .before .before .read-name .ensures) _ (omega arith) (c .before .before .before .before .u16-at .ensures) _ (goes-told _ _ _ (ap wayOf (c .before .e2 .given .1)) (c .before .before .before .skip-names .ensures)), tt)
+
+returns-4 : tie.Need-returns-4
+returns-4 c =
+    let l = reads-told _ _ _ (ap textStep (c .before .before .before .before .before .before .before .type-name .given .1)) (c .before .before .before .before .before .before .before .before .before .read-name .ensures) .0 in
+    enum-read _ _ _ _ _ (ap textStep (c .before .before .before .before .before .before .before .type-name .given .1)) (c .before .before .before .before .before .before .before .before .before .read-name .ensures) _ (omega arith) (c .before .before .before .before .u16-at .ensures) _ (goes-told _ _ _ (ap wayOf (c .before .m .given .1)) (c .before .before .before .skip-names .ensures))
+
+pub read-enum-def-spec : {M : Type 1} → statement M
+read-enum-def-spec =
+    tie.close
+    (tie.spec
+    (λ c κs. search needs)
+    (λ c. search needs)
+    (λ c. search needs)
+    sub-if1
+    returns
+    (λ c κs. search needs)
+    (λ c. search needs)
+    (λ c. search needs)
+    (λ c κs. search needs)
+    (λ c. search needs)
+    (λ c. search needs)
+    returns-2
+    returns-3
+    returns-4)

@@ -1,0 +1,121 @@
+-- What every table's walk, lookup and step cite, over any reader of entries: each takes what was read at a place as its contract gives it, and
+-- what a `match` on the answer told.
+use mathlib.Core.Path.{_≡_, refl, sym}
+use mathlib.Core.List.{List}
+use Prim.Native.Nat.{ℕ, zero, suc, _+_, _-_, _≤_, _<_}
+use native.Mathlib.Decide.{decLe}
+use native.Mathlib.Omega.{arith}
+use lib.ListN.{length, drop, length-drop}
+use borrow.Author.Tests.{eq-eqb, ne-eqb, lt-ltb, le-ltb}
+use Rattle.reading.specs.Fault.{Fault, shortInput}
+use Rattle.reading.specs.Reader.{Read, fault, got, Reader, next, give, many}
+use Rattle.reading.specs.Answer.{Got, refused, found, itemOf, indexed}
+use Rattle.reading.specs.Places.{Step, stops, item, Reads, onTo, Goes, Next, ends, faulty, entry, nextOf, stepOf}
+use Rattle.reading.specs.declared.Table.{Table}
+use Rattle.reading.proofs.Width.{Needs}
+use Rattle.reading.proofs.Passing.{Passed, passed-stop, passed-more, reads-told}
+use Rattle.reading.proofs.Tables.{at-walked, index-out, never-stops}
+use Rattle.format.specs.Faults.{noEntry}
+use Rattle.debug_text.specs.Picked.{picked}
+
+-- what an entry that was read makes of a lookup, and of a step
+abbrev pub answerBy : {A : Type 0} → Step A → Got A
+answerBy (stops f) = refused f
+answerBy (item a m) = found a
+
+abbrev pub nextBy : {A : Type 0} → Table → Step A → Next A
+nextBy t (stops f) = faulty f
+nextBy t (item a m) = entry a (record { at = m; count = t .count - 1 })
+
+-- the item made into another
+abbrev pub onStep : {A B : Type 0} → (B → A) → Step B → Step A
+onStep f (stops e) = stops e
+onStep f (item b m) = item (f b) m
+
+module _ {A : Type 0} (r : Reader A) (s : List ℕ) where
+  -- a reader that reads as another does at another place reads what that reads
+  pub reads-as : (at : ℕ) (q : Reader A) (to : ℕ) (w : Step A) → r (drop at s) ≡ q (drop to s) → Reads q s to w → Reads r s at w
+  reads-as at q to (stops f) e g = rw e g
+  reads-as at q to (item a m) e g = (g .0, rw e (g .1))
+
+  -- a reader that reads on by another: where that stops, and where it gives the last item
+  pub reads-stop : {B : Type 0} (at : ℕ) (q : Reader B) (to : ℕ) (go : B → Reader A) (f : Fault) {v : Step B} → r (drop at s) ≡ next (q (drop to s)) go → v ≡ stops f
+      → Reads q s to v → r (drop at s) ≡ fault f
+  reads-stop at q to go f d e g = rw (d, reads-told q s to e g)
+
+  pub reads-on : {B : Type 0} (at : ℕ) (q : Reader B) (to : ℕ) (h : B → A) {v w : Step B} → r (drop at s) ≡ next (q (drop to s)) (λ b. give (h b)) → v ≡ w → Reads q s to v
+      → Reads r s at (onStep h w)
+  reads-on {B} at q to h {v} {w} d e g = go w (reads-told q s to e g)
+    where
+      go : (w : Step B) → Reads q s to w → Reads r s at (onStep h w)
+      go (stops f) g = rw (d, g)
+      go (item b m) g = (g .0, rw (d, g .1))
+
+  -- Walks
+
+  pub walk-stop : (n at i p : ℕ) (f : Fault) {v : Step A} → i < n → Passed r s n at i p → v ≡ stops f → Reads r s p v → many n r (drop at s) ≡ fault f
+  walk-stop n at i p f l k e g = passed-stop r s n at i p f l k (reads-told r s p e g)
+
+  pub walk-more : (n at i p : ℕ) (a : A) (m : ℕ) {v : Step A} → i < n → Passed r s n at i p → v ≡ item a m → Reads r s p v → Passed r s n at (i + 1) m
+  walk-more n at i p a m l k e g = let h = reads-told r s p e g in passed-more r s n at i p a m l k (h .0) (h .1)
+
+  -- Lookups
+
+  module _ (at n k : ℕ) where
+    pub picked-out : n ≤ k → refused noEntry ≡ picked r s at n k
+    unfolding picked
+    picked-out h = rw (le-ltb k n h)
+
+    pub picked-stop : (f : Fault) → k < n → many k r (drop at s) ≡ fault f → refused f ≡ picked r s at n k
+    unfolding picked
+    picked-stop f h e = rw (lt-ltb k n h, e)
+
+    pub picked-past : (w : ℕ) → Needs w r → 0 < w → k < n → length s < at → refused shortInput ≡ picked r s at n k
+    unfolding picked
+    picked-past w e z h l = rw (lt-ltb k n h) (go k (length-drop at s))
+      where
+        go : (j : ℕ) → length (drop at s) ≡ length s - at → refused shortInput ≡ itemOf (next (many j r (drop at s)) (λ before. r))
+        go zero d = rw (e (drop at s) (omega arith))
+        go (suc j) d = rw (e (drop at s) (omega arith))
+
+    pub picked-read : (p : ℕ) {v w : Step A} → k < n → Goes (many k r) s at (onTo p) → v ≡ w → Reads r s p v → answerBy w ≡ picked r s at n k
+    unfolding picked
+    picked-read p {v} {w} h g e q = rw (lt-ltb k n h, g .1 .1) (go w (reads-told r s p e q))
+      where
+        go : (w : Step A) → Reads r s p w → answerBy w ≡ itemOf (r (drop p s))
+        go (stops f) q = rw q
+        go (item a m) q = rw (q .1)
+
+  -- Steps
+
+  module _ (t : Table) where
+    pub step-none : t .count ≡ 0 → ends ≡ stepOf r s t
+    unfolding stepOf
+    step-none h = rw (eq-eqb (t .count) 0 h)
+
+    pub step-read : {v w : Step A} → (t .count ≡ 0 → ⊥) → v ≡ w → Reads r s (t .at) v → nextBy t w ≡ stepOf r s t
+    unfolding stepOf
+    step-read {v} {w} h e q = rw (ne-eqb (t .count) 0 h) (go w (reads-told r s (t .at) e q))
+      where
+        go : (w : Step A) → Reads r s (t .at) w → nextBy t w ≡ nextOf s t (r (drop (t .at) s))
+        go (stops f) q = rw q
+        go (item a m) q =
+            let l = q .0 in
+            let z : length s - length (drop m s) ≡ m = simp length-drop (omega arith) in
+            rw (q .1, z)
+
+    pub step-past : (w : ℕ) → Needs w r → 0 < w → (t .count ≡ 0 → ⊥) → length s < t .at → faulty shortInput ≡ stepOf r s t
+    step-past w e z h l = let d = length-drop (t .at) s in step-read {v = stops shortInput} h refl (e (drop (t .at) s) (omega arith))
+
+-- for a table that reads, a lookup is indexing into its entries
+pub picked-is : {A : Type 0} (r : Reader A) (s : List ℕ) (at n k : ℕ) (xs : List A) (rest : List ℕ) → many n r (drop at s) ≡ got xs rest → picked r s at n k ≡ indexed noEntry xs k
+unfolding picked
+picked-is {A} r s at n k xs rest e = go (decLe n k)
+  where
+    here : k < n → (y : Read (List A)) → many k r (drop at s) ≡ y → itemOf (next y (λ before. r)) ≡ indexed noEntry xs k
+    here h (fault f) d = absurd (never-stops r k n (drop at s) xs rest f (omega arith) e d)
+    here h (got bs y) d = let w = at-walked r k n (drop at s) y xs bs rest h e d in rw (w .reads) (sym (w .picked noEntry))
+
+    go : Dec (n ≤ k) → picked r s at n k ≡ indexed noEntry xs k
+    go (yes h) = rw (le-ltb k n h) (sym (index-out r k n (drop at s) xs rest noEntry h e))
+    go (no h) = let l : k < n = omega arith in rw (lt-ltb k n l) (here l (many k r (drop at s)) refl)

@@ -1,0 +1,3 @@
+pub mod Entries
+pub mod Sizes
+pub mod Standing

@@ -1,0 +1,124 @@
+-- The section from its three tables; where they stand in a section that reads.
+use mathlib.Core.Path.{_≡_, refl, sym, ap, subst, _∙_}
+use mathlib.Core.List.{List, []}
+use Prim.Native.Nat.{ℕ, _+_, _*_, _≤_, _<_}
+use native.Mathlib.Decide.{decLe}
+use native.Mathlib.Omega.{arith}
+use lib.ListN.{length, drop, length-drop}
+use lib.Seq.{drop-drop}
+use borrow.Author.Tests.{le-ltb, lt-ltb}
+use Rattle.reading.specs.Fault.{Fault}
+use Rattle.reading.specs.Reader.{Read, fault, got, Reader, many, counted, countedOrNone}
+use Rattle.reading.specs.Answer.{refused, found, _>>=_, itemOf}
+use Rattle.reading.specs.Places.{leftOf, Holds}
+use Rattle.reading.specs.declared.Table.{Table}
+use Rattle.reading.proofs.Reading.{both}
+use Rattle.format.specs.Types.{FbType, fbType, Array, array, UserFb, userFb, TypeTables, typeTables}
+use Rattle.format.proofs.Answers.{never, same-found, steps}
+use Rattle.type_entries.specs.Starts.{fbTypesSize, fbTypesStart, arraysStart, userFbsStart, startsOf, tablesOf}
+use Rattle.type_entries.specs.Answers.{TableIs}
+use Rattle.type_entries.specs.declared.Tables.{Tables}
+use Rattle.type_entries.proofs.Sizes.{same-place, counted-left, fb-types-take, arrays-take}
+
+table-same : (t : Table) (at count : ℕ) → t .at ≡ at → t .count ≡ count → t ≡ record { at = at; count = count }
+table-same t at count p q = ap (λ (i : ℕ). record { at = i; count = t .count }) p ∙ ap (λ (n : ℕ). record { at = at; count = n }) q
+
+-- the first fault of the three tables, or all three
+module _ (s : List ℕ) where
+  pub fb-types-stop : (f : Fault) → counted fbType s ≡ fault f → refused f ≡ tablesOf s
+  unfolding typeTables
+  fb-types-stop f e = rw e
+
+  module _ (a : ℕ) (fbs : Table) (p : TableIs (counted fbType) s 0 fbs a) where
+    pub arrays-stop : (f : Fault) → counted array (drop a s) ≡ fault f → refused f ≡ tablesOf s
+    unfolding typeTables
+    arrays-stop f e = rw (p .reads, e)
+
+    module _ (u : ℕ) (rs : Table) (q : TableIs (counted array) s a rs u) where
+      pub user-fbs-stop : (f : Fault) → countedOrNone userFb (drop u s) ≡ fault f → refused f ≡ tablesOf s
+      unfolding typeTables
+      user-fbs-stop f e = rw (p .reads, q .reads, e)
+
+      pub tables-whole : (m : ℕ) (us : Table) → TableIs (countedOrNone userFb) s u us m → found (record { «fb_types» = fbs; arrays = rs; «user_fbs» = us }) ≡ tablesOf s
+      unfolding typeTables
+      tables-whole m us r =
+          let j = fb-types-take .takes s (p .entries) (drop a s) (p .reads) in
+          let k = arrays-take .takes (drop a s) (q .entries) (drop u s) (q .reads) in
+          let d = length-drop a s in
+          let i = p .within in
+          let b : a ≡ 2 + fbTypesSize (p .entries) = same-place s a _ i (j .1) (j .0) in
+          let c : u ≡ a + (2 + 12 * length (q .entries)) = same-place s u _ (q .within) (omega (arith, k .1)) (k .0 ∙ drop-drop _ a s) in
+          let x = table-same fbs 2 (length (p .entries)) (p .place) (p .count) in
+          let y = table-same rs (4 + fbTypesSize (p .entries)) (length (q .entries)) (omega (arith, q .place)) (q .count) in
+          let z = table-same us (6 + fbTypesSize (p .entries) + 12 * length (q .entries)) (length (r .entries)) (omega (arith, r .place)) (r .count) in
+          rw (p .reads, q .reads, r .reads) (cc)
+
+-- A section that reads
+
+-- its tables stand at `u`
+pub record Standing (s : List ℕ) (t : TypeTables) (u : Tables) : Type 0 where
+  pub fbTypes : Holds fbType s (u .«fb_types») (t .fbTypes)
+  pub arrays : Holds array s (u .arrays) (t .arrays)
+  pub rest : List ℕ
+  pub userFbs : leftOf userFb s (u .«user_fbs») ≡ got (t .userFbs) rest
+
+behind : {A : Type 0} (r : Reader A) (s : List ℕ) (at to : ℕ) (xs : List A) (x : List ℕ) → at + 2 ≡ to → at ≤ length s → counted r (drop at s) ≡ got xs x
+    → Holds r s (record { at = to; count = length xs }) xs
+behind r s at to xs x e h c =
+    let k = counted-left r (drop at s) xs x c in
+    record { within = omega (arith, k .1, length-drop at s); rest = x; reads = ap (λ (i : ℕ). many (length xs) r (drop i s)) (sym e) ∙ ap (many (length xs) r) (sym (drop-drop 2 at s)) ∙ k .0 }
+
+users-behind : (s : List ℕ) (at to : ℕ) (us : List UserFb) (x : List ℕ) → at + 2 ≡ to → at ≤ length s → countedOrNone userFb (drop at s) ≡ got us x
+    → (rest : List ℕ) × (leftOf userFb s (record { at = to; count = length us }) ≡ got us rest)
+users-behind s at to us x e h c = go (decLe (at + 2) (length s))
+  where
+    go : Dec (at + 2 ≤ length s) → (rest : List ℕ) × (leftOf userFb s (record { at = to; count = length us }) ≡ got us rest)
+    go (yes i) =
+        let d = length-drop at s in
+        let k = behind userFb s at to us x e h (rw (le-ltb (length (drop at s)) 2 (omega arith)) at c) in
+        (k .rest, k .reads)
+    go (no i) =
+        let d = length-drop at s in
+        let g = rw (lt-ltb (length (drop at s)) 2 (omega arith)) at c in
+        let z : us ≡ [] = cc in
+        rw z (drop to s, refl)
+
+item-read : {A : Type 0} (x : Read A) (a : A) → itemOf x ≡ found a → (rest : List ℕ) × (x ≡ got a rest)
+item-read (fault f) a e = never e
+item-read (got b rest) a e = (rest, ap (λ v. got v rest) (same-found e))
+
+standing-of : (s : List ℕ) (bs : List FbType) (rs : List Array) (us : List UserFb) (x y z : List ℕ) → counted fbType s ≡ got bs x → counted array x ≡ got rs y
+    → countedOrNone userFb y ≡ got us z → Standing s (record { fbTypes = bs; arrays = rs; userFbs = us }) (startsOf (record { fbTypes = bs; arrays = rs; userFbs = us }))
+standing-of s bs rs us x y z p q r =
+    let j = fb-types-take .takes s bs x p in
+    let k = arrays-take .takes x rs y q in
+    let l = ap length (j .0) ∙ length-drop (2 + fbTypesSize bs) s in
+    let w : y ≡ drop (2 + fbTypesSize bs + (2 + 12 * length rs)) s = k .0 ∙ ap (drop (2 + 12 * length rs)) (j .0) ∙ drop-drop (2 + 12 * length rs) (2 + fbTypesSize bs) s in
+    let u = users-behind s (2 + fbTypesSize bs + (2 + 12 * length rs)) (6 + fbTypesSize bs + 12 * length rs) us z (omega arith) (omega (arith, k .1, j .1)) (sym (ap (countedOrNone userFb) w) ∙ r) in
+    record {
+      fbTypes = behind fbType s 0 2 bs x refl (omega arith) p;
+      arrays = behind array s (2 + fbTypesSize bs) (4 + fbTypesSize bs) rs y (omega arith) (j .1) (sym (ap (counted array) (j .0)) ∙ q);
+      rest = u .0;
+      userFbs = u .1;
+    }
+
+pub standing : (s : List ℕ) (t : TypeTables) → itemOf (typeTables s) ≡ found t → Standing s t (startsOf t)
+unfolding typeTables
+standing s t h =
+    let e = item-read (typeTables s) t h in
+    let p = both (counted fbType s) (e .1) in
+    let q = both (counted array (p .middle)) (p .second) in
+    let r = both (countedOrNone userFb (q .middle)) (q .second) in
+    let z : record { fbTypes = p .item; arrays = q .item; userFbs = r .item } ≡ t = cc in
+    subst (λ v. Standing s v (startsOf v)) z (standing-of s (p .item) (q .item) (r .item) (p .middle) (q .middle) (r .middle) (p .first) (q .first) (r .first))
+
+-- what the section's reader told of it
+pub record Readable (s : List ℕ) (u : Tables) : Type 0 where
+  pub all : TypeTables
+  pub is : itemOf (typeTables s) ≡ found all
+  pub stand : Standing s all u
+
+pub readable : (s : List ℕ) (u : Tables) → found u ≡ tablesOf s → Readable s u
+readable s u h =
+    let k = steps (itemOf (typeTables s)) (sym h) in
+    record { all = k .item; is = k .first; stand = subst (Standing s (k .item)) (same-found (k .second)) (standing s (k .item) (k .first)) }

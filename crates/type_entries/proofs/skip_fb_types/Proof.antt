@@ -1,0 +1,57 @@
+-- `type_entries::skip_fb_types` meets its contract: the loop keeps `Passed`, and each need is one of its laws.
+use Prim.Native.Nat.{_-_}
+use native.Mathlib.Omega.{arith}
+use denote.Ref.{now}
+use Rattle.base.specs.Error.{faultOf}
+use Rattle.reading.proofs.Passing.{Passed, passed-none, passed-all, passed-stop, passed-more}
+use Rattle.format.specs.Types.{fbType}
+use borrow.Author.Needs.{needs}
+use Rattle.type_entries.proofs.skip_fb_types.Statement.{statement}
+use Rattle.type_entries.proofs.skip_fb_types.Tie as tie
+
+abbrev Inv-loop : tie.InvT-loop
+Inv-loop s at n p₀ i₀ p i = Passed fbType s n at i p
+
+abbrev μ-loop : tie.MeasureT-loop
+μ-loop s at n p₀ i₀ p i = n - i
+
+loop-holds : tie.Need-loop-holds Inv-loop μ-loop
+loop-holds c = let a = c .before .args in passed-none fbType (now (a .s)) (a .n) (a .at) (omega arith)
+
+returns : tie.Need-returns Inv-loop μ-loop
+returns c =
+    let a = c .before .before .before .before .before .before .before .args in
+    let l = c .before .before .before .before .before .loop in
+    let v = c .before .e .given in
+    let g = rw (v .1) at (c .before .before .before .read-fb-type .ensures) in
+    passed-stop fbType (now (a .s)) (a .n) (a .at) (l .i) (l .p) (faultOf (v .0 .0)) (c .before .before .before .before .loop-test .taken) (l .inv) g
+
+loop-again : tie.Need-loop-again Inv-loop μ-loop
+loop-again c =
+    let a = c .before .before .before .before .before .before .before .args in
+    let l = c .before .before .before .before .before .loop in
+    let v = c .before .m .given in
+    let g = rw (v .1) at (c .before .before .before .read-fb-type .ensures) in
+    passed-more fbType (now (a .s)) (a .n) (a .at) (l .i) (l .p) _ (v .0 .1 .0) (c .before .before .before .before .loop-test .taken) (l .inv) (g .within) (g .reads)
+
+returns-2 : tie.Need-returns-2 Inv-loop μ-loop
+returns-2 c =
+    let a = c .before .before .before .args in
+    let l = c .before .loop in
+    passed-all fbType (now (a .s)) (a .n) (a .at) (l .i) (l .p) (c .loop-test .left) (l .inv)
+
+pub skip-fb-types-spec : {M : Type 1} → statement M
+skip-fb-types-spec =
+    tie.close
+    (tie.spec
+    Inv-loop
+    μ-loop
+    loop-holds
+    (λ c κs. search needs)
+    (λ c. search needs)
+    returns
+    (λ c. search needs)
+    (λ c. search needs)
+    (λ c. search needs)
+    loop-again
+    returns-2)

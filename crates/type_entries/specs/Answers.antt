@@ -1,0 +1,111 @@
+-- What the code's answers mean.
+use Prim.Native.Nat.{ℕ, _+_, _≤_, _<_}
+use mathlib.Core.List.{List}
+use mathlib.Core.Path.{_≡_}
+use lib.ListN.{length, drop}
+use Rattle.reading.specs.Reader.{Reader, fault, got}
+use Rattle.reading.specs.Answer.{Got, refused, found, need}
+use Rattle.reading.specs.Places.{Step, stops, item, Way, stopsBy, onTo}
+use Rattle.reading.specs.declared.Table.{Table}
+use Rattle.format.specs.Faults.{invalidArrayStride}
+use Rattle.format.specs.Types.{Field, FbType, fbType, Array, strideFits, UserFb}
+use Rattle.format.specs.Lookups.{FbTypeHead}
+use Rattle.base.specs.Error.{faultOf}
+use Rattle.base.specs.Small.{fieldTypeNumber}
+use Rattle.base.specs.declared.section.Walk.{Walk}
+use Rattle.base.specs.declared.section.Walk.the-variants as walk
+use Rattle.type_entries.specs.declared.FieldEntry.{FieldEntry}
+use Rattle.type_entries.specs.declared.FieldStep.{FieldStep}
+use Rattle.type_entries.specs.declared.FieldStep.the-variants as field-step
+use Rattle.type_entries.specs.declared.FbTypeDescriptor.{FbTypeDescriptor}
+use Rattle.type_entries.specs.declared.FbTypeStep.{FbTypeStep}
+use Rattle.type_entries.specs.declared.FbTypeStep.the-variants as fb-type-step
+use Rattle.type_entries.specs.declared.ArrayDescriptor.{ArrayDescriptor}
+use Rattle.type_entries.specs.declared.ArrayStep.{ArrayStep}
+use Rattle.type_entries.specs.declared.ArrayStep.the-variants as array-step
+use Rattle.type_entries.specs.declared.SizeAnswer.{SizeAnswer}
+use Rattle.type_entries.specs.declared.SizeAnswer.the-variants as size-answer
+use Rattle.type_entries.specs.declared.UserFbDescriptor.{UserFbDescriptor}
+use Rattle.type_entries.specs.declared.UserFbStep.{UserFbStep}
+use Rattle.type_entries.specs.declared.UserFbStep.the-variants as user-fb-step
+use Rattle.type_entries.specs.declared.TableStep.{TableStep}
+use Rattle.type_entries.specs.declared.TableStep.the-variants as table-step
+use Rattle.type_entries.specs.declared.Tables.{Tables}
+use Rattle.type_entries.specs.declared.TablesAnswer.{TablesAnswer}
+use Rattle.type_entries.specs.declared.TablesAnswer.the-variants as tables-answer
+
+abbrev pub wayFrom : Walk → Way
+wayFrom (walk.Refused e) = stopsBy (faultOf e)
+wayFrom (walk.At m) = onTo m
+
+-- Fields
+
+abbrev pub fieldIn : FieldEntry → Field
+fieldIn f = record { kind = fieldTypeNumber (f .«field_type»); extra = f .«field_extra» }
+
+abbrev pub fieldStep : FieldStep → Step Field
+fieldStep (field-step.Refused e) = stops (faultOf e)
+fieldStep (field-step.Entry f m) = item (fieldIn f) m
+
+-- FB types: the code has an FB type's head, and its fields are there
+
+abbrev pub headIn : FbTypeDescriptor → FbTypeHead
+headIn d = record { id = d .«type_id» .0; fieldCount = d .«num_fields» }
+
+pub record FbTypeIs (s : List ℕ) (at : ℕ) (d : FbTypeDescriptor) (m : ℕ) : Type 0 where
+  pub within : m ≤ length s
+  pub fields : List Field
+  pub count : length fields ≡ d .«num_fields»
+  pub reads : fbType (drop at s) ≡ got (record { id = d .«type_id» .0; fields = fields }) (drop m s)
+
+abbrev pub FbTypeReads : List ℕ → ℕ → FbTypeStep → Type 0
+FbTypeReads s at (fb-type-step.Refused e) = fbType (drop at s) ≡ fault (faultOf e)
+FbTypeReads s at (fb-type-step.Entry d m) = FbTypeIs s at d m
+
+-- Arrays
+
+abbrev pub arrayIn : ArrayDescriptor → Array
+arrayIn a = record { kind = a .«element_type»; elements = a .«total_elements»; extra = a .«element_extra»; stride = a .«element_stride» }
+
+abbrev pub strideChecked : Array → Got (Unit {0})
+strideChecked a = need (strideFits (a .kind) (a .extra) (a .stride)) (invalidArrayStride (a .kind) (a .stride))
+
+abbrev pub arrayStep : ArrayStep → Step Array
+arrayStep (array-step.Refused e) = stops (faultOf e)
+arrayStep (array-step.Entry a m) = item (arrayIn a) m
+
+abbrev pub sizeFrom : SizeAnswer → Got ℕ
+sizeFrom (size-answer.Refused e) = refused (faultOf e)
+sizeFrom (size-answer.Bytes n) = found n
+
+-- User FBs
+
+abbrev pub userFbIn : UserFbDescriptor → UserFb
+userFbIn u = record { id = u .«type_id» .0; function = u .«function_id» .0; variableOffset = u .«var_offset»; fieldCount = u .«num_fields» }
+
+abbrev pub userFbStep : UserFbStep → Step UserFb
+userFbStep (user-fb-step.Refused e) = stops (faultOf e)
+userFbStep (user-fb-step.Entry u m) = item (userFbIn u) m
+
+-- Tables with their counts in front
+
+pub record TableIs {A : Type 0} (r : Reader (List A)) (s : List ℕ) (at : ℕ) (t : Table) (m : ℕ) : Type 0 where
+  pub within : m ≤ length s
+  pub entries : List A
+  pub reads : r (drop at s) ≡ got entries (drop m s)
+  pub place : t .at ≡ at + 2
+  pub count : t .count ≡ length entries
+  pub small : t .count < 65536
+
+abbrev pub TableReads : {A : Type 0} → Reader (List A) → List ℕ → ℕ → TableStep → Type 0
+TableReads r s at (table-step.Refused e) = r (drop at s) ≡ fault (faultOf e)
+TableReads r s at (table-step.Entries t m) = TableIs r s at t m
+
+abbrev pub tablesFrom : TablesAnswer → Got Tables
+tablesFrom (tables-answer.Refused e) = refused (faultOf e)
+tablesFrom (tables-answer.Tables t) = found t
+
+-- counts have two bytes
+abbrev pub Small : TablesAnswer → Type 0
+Small (tables-answer.Refused e) = Unit {0}
+Small (tables-answer.Tables t) = (t .«fb_types» .count < 65536) × (t .arrays .count < 65536) × (t .«user_fbs» .count < 65536)
