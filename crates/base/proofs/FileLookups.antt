@@ -29,7 +29,7 @@ use Rattle.base.proofs.Sections.{section-refused, section-found}
 abbrev pub sliced : List ℕ → Place → List ℕ
 sliced f q = take (q .offset + q .size - q .offset) (drop (q .offset) f)
 
-slice-is : (f : List ℕ) (q : Place) → sliced f q ≡ cut f q
+pub slice-is : (f : List ℕ) (q : Place) → sliced f q ≡ cut f q
 slice-is f q = rw add-sub-cancel-left
 
 -- an answer, by what another that begins alike answers

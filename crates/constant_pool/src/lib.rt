@@ -2,7 +2,7 @@
 ghost use mathlib.Core.Path.{_≡_};
 ghost use mathlib.Core.Bool.{true};
 ghost use Prim.Native.Nat.{_+_, _^_, _≤_, _<_};
-ghost use lib.ListN.{length, take, drop};
+ghost use lib.ListN.{length};
 ghost use Rattle.reading.specs.Numbers.{le};
 ghost use Rattle.reading.specs.Reader.{many};
 ghost use Rattle.reading.specs.Places.{Reads, Goes, stepOf};

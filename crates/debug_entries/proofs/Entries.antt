@@ -15,11 +15,11 @@ use Rattle.reading.proofs.Passing.{reads-told, counted-short, counted-as}
 use Rattle.format.specs.Faults.{noEntry}
 use Rattle.format.specs.Parts.{Keep}
 use Rattle.format.specs.Debug.{name, path, Variable, variable, functionName, stringLayout, sourceFile, Enumeration, enumeration}
-use Rattle.debug_entries.specs.Answers.{itemsOf}
 use Rattle.debug_text.specs.Picked.{picked}
-use Rattle.debug_entries.specs.Lookups.{pickedValue}
 use Rattle.debug_text.proofs.Texts.{name-needs, path-needs}
 use Rattle.debug_text.proofs.Walks.{onStep, reads-stop, reads-on}
+use Rattle.debug_entries.specs.Answers.{itemsOf}
+use Rattle.debug_entries.specs.Lookups.{pickedValue}
 
 -- What an entry needs to be there
 

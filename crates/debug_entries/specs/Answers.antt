@@ -11,6 +11,7 @@ use Rattle.format.specs.Debug.{name, Variable, FunctionName, StringLayout, Sour
 use Rattle.format.specs.Parts.{Place}
 use Rattle.base.specs.Digest.{digestBytes}
 use Rattle.base.specs.Section.{partIn}
+use Rattle.debug_text.specs.Answers.{keepIn, faultOf}
 use Rattle.debug_entries.specs.declared.var_names.VarNameEntry.{VarNameEntry}
 use Rattle.debug_entries.specs.declared.var_names.VarNameStep.{VarNameStep}
 use Rattle.debug_entries.specs.declared.var_names.VarNameStep.the-variants as stepVar
@@ -46,7 +47,6 @@ use Rattle.debug_entries.specs.declared.enum_defs.EnumDefAnswer.{EnumDef
 use Rattle.debug_entries.specs.declared.enum_defs.EnumDefAnswer.the-variants as answerEnum
 use Rattle.debug_entries.specs.declared.enum_defs.EnumDefNext.{EnumDefNext}
 use Rattle.debug_entries.specs.declared.enum_defs.EnumDefNext.the-variants as nextEnum
-use Rattle.debug_text.specs.Answers.{keepIn, faultOf}
 
 -- Variables
 

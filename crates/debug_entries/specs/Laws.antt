@@ -1,25 +1,48 @@
--- What is claimed of every table of the section `s` at `base`: a walk over it, step by step, gives what reading it gives; and where it reads, a
--- lookup in it is indexing into its entries.
-use Prim.Native.Nat.{ℕ}
+-- What is claimed of every table of the section `s` at `base`: a walk over it, step by step, gives what reading it gives; where it reads, a lookup
+-- in it is indexing into its entries; and the names and paths that a lookup or a step gives lie in the section.
+use Prim.Native.Nat.{ℕ, _+_, _≤_}
 use mathlib.Core.Path.{_≡_}
 use mathlib.Core.List.{List}
+use lib.ListN.{length}
 use Rattle.reading.specs.Reader.{Reader, got}
-use Rattle.reading.specs.Answer.{itemOf, indexed}
-use Rattle.reading.specs.Places.{leftOf, walked}
+use Rattle.reading.specs.Answer.{found, itemOf, indexed}
+use Rattle.reading.specs.Places.{leftOf, entry, stepOf, walked}
 use Rattle.reading.specs.declared.Table.{Table}
 use Rattle.format.specs.Faults.{noEntry}
-use Rattle.format.specs.Debug.{name, variable, functionName, stringLayout, sourceFile, enumeration}
+use Rattle.format.specs.Parts.{Place}
+use Rattle.format.specs.Debug.{name, Variable, variable, FunctionName, functionName, stringLayout, SourceFile, sourceFile, Enumeration, enumeration}
 use Rattle.debug_text.specs.Answers.{keepIn}
 use Rattle.debug_text.specs.Picked.{picked}
 
-pub record Walkable {A : Type 0} (r : Reader A) (s : List ℕ) : Type 0 where
+-- a part of the file that lies in the section
+pub record Lies (base : ℕ) (s : List ℕ) (p : Place) : Type 0 where
+  pub starts : base ≤ p .offset
+  pub ends : p .offset + p .size ≤ base + length s
+
+-- a table of entries of which each that is given is `P`
+pub record Walkable {A : Type 0} (P : A → Type 0) (r : Reader A) (s : List ℕ) : Type 0 where
   pub walk : (t : Table) → walked (t .count) r s t ≡ itemOf (leftOf r s t)
   pub lookup : (t : Table) (k : ℕ) (xs : List A) (rest : List ℕ) → leftOf r s t ≡ got xs rest → picked r s (t .at) (t .count) k ≡ indexed noEntry xs k
+  pub found-is : (at n k : ℕ) (a : A) → picked r s at n k ≡ found a → P a
+  pub step-is : (t u : Table) (a : A) → stepOf r s t ≡ entry a u → P a
+
+module _ (base : ℕ) (s : List ℕ) where
+  abbrev pub VariableLies : Variable Place → Type 0
+  VariableLies v = Lies base s (v .named) × Lies base s (v .typeName)
+
+  abbrev pub FunctionLies : FunctionName Place → Type 0
+  FunctionLies f = Lies base s (f .named)
+
+  abbrev pub FileLies : SourceFile Place → Type 0
+  FileLies f = Lies base s (f .located)
+
+  abbrev pub EnumerationLies : Enumeration Place → Type 0
+  EnumerationLies e = Lies base s (e .named) × ((j : ℕ) (p : Place) → indexed noEntry (e .values) j ≡ found p → Lies base s p)
 
 pub record Laws : Type 0 where
-  pub names : (base : ℕ) (s : List ℕ) → Walkable (name (keepIn base s)) s
-  pub variables : (base : ℕ) (s : List ℕ) → Walkable (variable (keepIn base s)) s
-  pub functions : (base : ℕ) (s : List ℕ) → Walkable (functionName (keepIn base s)) s
-  pub strings : (s : List ℕ) → Walkable stringLayout s
-  pub files : (base : ℕ) (s : List ℕ) → Walkable (sourceFile (keepIn base s)) s
-  pub enumerations : (base : ℕ) (s : List ℕ) → Walkable (enumeration (keepIn base s)) s
+  pub names : (base : ℕ) (s : List ℕ) → Walkable (Lies base s) (name (keepIn base s)) s
+  pub variables : (base : ℕ) (s : List ℕ) → Walkable (VariableLies base s) (variable (keepIn base s)) s
+  pub functions : (base : ℕ) (s : List ℕ) → Walkable (FunctionLies base s) (functionName (keepIn base s)) s
+  pub strings : (s : List ℕ) → Walkable (λ l. Unit {0}) stringLayout s
+  pub files : (base : ℕ) (s : List ℕ) → Walkable (FileLies base s) (sourceFile (keepIn base s)) s
+  pub enumerations : (base : ℕ) (s : List ℕ) → Walkable (EnumerationLies base s) (enumeration (keepIn base s)) s

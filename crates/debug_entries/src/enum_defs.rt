@@ -16,8 +16,8 @@ ghost use Rattle.reading.specs.Reader.{many};
 ghost use Rattle.reading.specs.Places.{Reads, Goes, stepOf};
 ghost use Rattle.format.specs.Debug.{enumeration};
 ghost use Rattle.debug_text.specs.Answers.{InFile, keepIn, wayOf, nameFrom};
-ghost use Rattle.debug_entries.specs.Answers.{enumDefStep, StepHolds, enumDefFrom, AnswerHolds, enumDefNext, NextHolds};
 ghost use Rattle.debug_text.specs.Picked.{picked};
+ghost use Rattle.debug_entries.specs.Answers.{enumDefStep, StepHolds, enumDefFrom, AnswerHolds, enumDefNext, NextHolds};
 ghost use Rattle.debug_entries.specs.Lookups.{pickedValue};
 
 // The type's name, and the table of the values' names: the place in the section of the first, and how many there are.
@@ -32,6 +32,7 @@ pub enum EnumDefStep {
     Entry(EnumDefEntry, usize),
 }
 
+// An entry that is looked up; `NoEntry` where the table has none at the index.
 pub enum EnumDefAnswer {
     Fault(DebugFault),
     NoEntry,

@@ -14,8 +14,8 @@ ghost use Rattle.reading.specs.Reader.{many};
 ghost use Rattle.reading.specs.Places.{Reads, Goes, stepOf};
 ghost use Rattle.format.specs.Debug.{functionName};
 ghost use Rattle.debug_text.specs.Answers.{InFile, keepIn, wayOf};
-ghost use Rattle.debug_entries.specs.Answers.{funcNameStep, funcNameFrom, funcNameNext};
 ghost use Rattle.debug_text.specs.Picked.{picked};
+ghost use Rattle.debug_entries.specs.Answers.{funcNameStep, funcNameFrom, funcNameNext};
 
 pub struct FuncNameEntry {
     pub function_id: FunctionId,
@@ -28,6 +28,7 @@ pub enum FuncNameStep {
     Entry(FuncNameEntry, usize),
 }
 
+// An entry that is looked up; `NoEntry` where the table has none at the index.
 pub enum FuncNameAnswer {
     Fault(DebugFault),
     NoEntry,

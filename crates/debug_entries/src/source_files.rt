@@ -14,8 +14,8 @@ ghost use Rattle.reading.specs.Reader.{many};
 ghost use Rattle.reading.specs.Places.{Reads, Goes, stepOf};
 ghost use Rattle.format.specs.Debug.{sourceFile};
 ghost use Rattle.debug_text.specs.Answers.{InFile, keepIn, wayOf};
-ghost use Rattle.debug_entries.specs.Answers.{sourceFileStep, sourceFileFrom, sourceFileNext};
 ghost use Rattle.debug_text.specs.Picked.{picked};
+ghost use Rattle.debug_entries.specs.Answers.{sourceFileStep, sourceFileFrom, sourceFileNext};
 
 pub const SOURCE_FILE_HASH_LEN: usize = 32;
 
@@ -30,6 +30,7 @@ pub enum SourceFileStep {
     Entry(SourceFileEntry, usize),
 }
 
+// An entry that is looked up; `NoEntry` where the table has none at the index.
 pub enum SourceFileAnswer {
     Fault(DebugFault),
     NoEntry,

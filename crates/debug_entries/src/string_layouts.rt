@@ -12,8 +12,8 @@ ghost use Rattle.reading.specs.Reader.{many};
 ghost use Rattle.reading.specs.Places.{Reads, Goes, stepOf};
 ghost use Rattle.format.specs.Debug.{stringLayout};
 ghost use Rattle.debug_text.specs.Answers.{wayOf};
-ghost use Rattle.debug_entries.specs.Answers.{stringLayoutStep, stringLayoutFrom, stringLayoutNext};
 ghost use Rattle.debug_text.specs.Picked.{picked};
+ghost use Rattle.debug_entries.specs.Answers.{stringLayoutStep, stringLayoutFrom, stringLayoutNext};
 
 const STRING_LAYOUT_ENTRY_SIZE: usize = 8;
 
@@ -29,6 +29,7 @@ pub enum StringLayoutStep {
     Entry(StringLayoutEntry, usize),
 }
 
+// An entry that is looked up; `NoEntry` where the table has none at the index.
 pub enum StringLayoutAnswer {
     Fault(DebugFault),
     NoEntry,

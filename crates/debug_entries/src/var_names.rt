@@ -16,8 +16,8 @@ ghost use Rattle.reading.specs.Reader.{many};
 ghost use Rattle.reading.specs.Places.{Reads, Goes, stepOf};
 ghost use Rattle.format.specs.Debug.{variable};
 ghost use Rattle.debug_text.specs.Answers.{InFile, keepIn, wayOf};
-ghost use Rattle.debug_entries.specs.Answers.{varNameStep, varNameFrom, varNameNext};
 ghost use Rattle.debug_text.specs.Picked.{picked};
+ghost use Rattle.debug_entries.specs.Answers.{varNameStep, varNameFrom, varNameNext};
 
 pub struct VarNameEntry {
     pub var_index: VarIndex,
@@ -34,6 +34,7 @@ pub enum VarNameStep {
     Entry(VarNameEntry, usize),
 }
 
+// An entry that is looked up; `NoEntry` where the table has none at the index.
 pub enum VarNameAnswer {
     Fault(DebugFault),
     NoEntry,

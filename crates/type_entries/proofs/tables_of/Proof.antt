@@ -1,5 +1,4 @@
 -- `type_entries::tables_of` meets its contract: three tables, one behind the other.
-use native.Mathlib.Omega.{arith}
 use denote.Ref.{now}
 use Rattle.base.specs.Error.{faultOf}
 use Rattle.type_entries.proofs.Standing.{fb-types-stop, arrays-stop, user-fbs-stop, tables-whole}

@@ -1,7 +1,7 @@
 -- `debug_entries::enum_defs::find_enum_value` meets its contract: the enumeration, and the name in the table of its values.
 use mathlib.Core.Path.{sym, ap, subst, _∙_}
-use Rattle.debug_entries.specs.Answers.{enumDefFrom, AnswerHolds}
 use Rattle.debug_text.proofs.Walks.{picked-is}
+use Rattle.debug_entries.specs.Answers.{enumDefFrom, AnswerHolds}
 use Rattle.debug_entries.proofs.Entries.{values-then}
 use borrow.Author.Needs.{needs}
 use Rattle.debug_entries.proofs.enum_defs.find_enum_value.Statement.{statement}

@@ -1,8 +1,8 @@
 -- `debug_entries::enum_defs::next_enum_def` meets its contract: the end, a place past the section's end, or what is read there.
 use mathlib.Core.Path.{ap, subst}
 use native.Mathlib.Omega.{arith}
-use Rattle.debug_entries.specs.Answers.{enumDefStep, StepHolds}
 use Rattle.debug_text.proofs.Walks.{step-none, step-past, step-read}
+use Rattle.debug_entries.specs.Answers.{enumDefStep, StepHolds}
 use Rattle.debug_entries.proofs.Entries.{enum-needs}
 use borrow.Author.Needs.{needs}
 use Rattle.debug_entries.proofs.enum_defs.next_enum_def.Statement.{statement}

@@ -5,8 +5,8 @@ use native.Mathlib.Omega.{arith}
 use Rattle.reading.proofs.Passing.{Passed, passed-none, passed-all}
 use Rattle.format.specs.Debug.{enumeration}
 use Rattle.debug_text.specs.Answers.{keepIn}
-use Rattle.debug_entries.specs.Answers.{enumDefStep}
 use Rattle.debug_text.proofs.Walks.{walk-stop, walk-more}
+use Rattle.debug_entries.specs.Answers.{enumDefStep}
 use borrow.Author.Needs.{needs}
 use Rattle.debug_entries.proofs.enum_defs.skip_enum_defs.Statement.{statement}
 use Rattle.debug_entries.proofs.enum_defs.skip_enum_defs.Tie as tie

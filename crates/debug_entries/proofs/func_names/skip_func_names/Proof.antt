@@ -5,8 +5,8 @@ use native.Mathlib.Omega.{arith}
 use Rattle.reading.proofs.Passing.{Passed, passed-none, passed-all}
 use Rattle.format.specs.Debug.{functionName}
 use Rattle.debug_text.specs.Answers.{keepIn}
-use Rattle.debug_entries.specs.Answers.{funcNameStep}
 use Rattle.debug_text.proofs.Walks.{walk-stop, walk-more}
+use Rattle.debug_entries.specs.Answers.{funcNameStep}
 use borrow.Author.Needs.{needs}
 use Rattle.debug_entries.proofs.func_names.skip_func_names.Statement.{statement}
 use Rattle.debug_entries.proofs.func_names.skip_func_names.Tie as tie

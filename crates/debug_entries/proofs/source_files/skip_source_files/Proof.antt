@@ -5,8 +5,8 @@ use native.Mathlib.Omega.{arith}
 use Rattle.reading.proofs.Passing.{Passed, passed-none, passed-all}
 use Rattle.format.specs.Debug.{sourceFile}
 use Rattle.debug_text.specs.Answers.{keepIn}
-use Rattle.debug_entries.specs.Answers.{sourceFileStep}
 use Rattle.debug_text.proofs.Walks.{walk-stop, walk-more}
+use Rattle.debug_entries.specs.Answers.{sourceFileStep}
 use borrow.Author.Needs.{needs}
 use Rattle.debug_entries.proofs.source_files.skip_source_files.Statement.{statement}
 use Rattle.debug_entries.proofs.source_files.skip_source_files.Tie as tie

@@ -3,8 +3,8 @@ use mathlib.Core.Path.{ap}
 use native.Mathlib.Omega.{arith}
 use Rattle.reading.proofs.Passing.{goes-told}
 use Rattle.debug_text.specs.Answers.{wayOf}
-use Rattle.debug_entries.specs.Answers.{stringLayoutStep}
 use Rattle.debug_text.proofs.Walks.{picked-out, picked-past, picked-stop, picked-read}
+use Rattle.debug_entries.specs.Answers.{stringLayoutStep}
 use Rattle.debug_entries.proofs.Entries.{layout-fixed}
 use borrow.Author.Needs.{needs}
 use Rattle.debug_entries.proofs.string_layouts.find_string_layout.Statement.{statement}

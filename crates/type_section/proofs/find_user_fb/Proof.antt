@@ -1,0 +1,74 @@
+-- `type_section::find_user_fb` meets its contract: the entry of an index stands at the index times the width.
+use mathlib.Core.Path.{ap}
+use Prim.Native.Nat.{_+_, _*_, _≤_}
+use native.Mathlib.Omega.{arith}
+use lib.ListN.{length}
+use denote.Ref.{now}
+use Rattle.reading.specs.Answer.{itemOf}
+use Rattle.reading.specs.Places.{stops, item}
+use Rattle.reading.proofs.Passing.{reads-told}
+use Rattle.format.specs.Types.{userFb, typeTables}
+use Rattle.format.specs.Lookups.{userFbOf}
+use Rattle.base.specs.Error.{faultOf}
+use Rattle.type_entries.specs.Starts.{startsOf}
+use Rattle.type_entries.specs.Answers.{userFbIn, userFbStep}
+use Rattle.type_section.proofs.Finding.{refused-then, user-fb-fits, user-fb-out, user-fb-found}
+use borrow.Author.Needs.{needs}
+use Rattle.type_section.proofs.find_user_fb.Statement.{statement}
+use Rattle.type_section.proofs.find_user_fb.Tie as tie
+
+returns : tie.Need-returns
+returns c =
+    let a = c .before .before .before .before .before .before .args in
+    let v = c .before .before .t .given in
+    user-fb-out (now (a .s)) (v .0 .0) (rw (v .1) at (c .before .before .before .before .tables-of .ensures .0)) (a .index) (c .if1 .taken)
+
+-- the entry lies in the section
+fits : (c : tie.Else1) → let t = c .before .before .t .given .0 .0 .«user_fbs» in t .at + 8 * c .before .before .before .before .before .before .args .index + 8 ≤ length (now (c .before .before .before .before .before .before .args .s))
+fits c =
+    let a = c .before .before .before .before .before .before .args in
+    let v = c .before .before .t .given in
+    user-fb-fits (now (a .s)) (v .0 .0) (rw (v .1) at (c .before .before .before .before .tables-of .ensures .0)) (a .index) (c .if1 .left)
+
+mul-read-user-fb : tie.Need-mul-read-user-fb
+mul-read-user-fb c = omega (arith, fits c)
+
+add-read-user-fb : tie.Need-add-read-user-fb
+add-read-user-fb c = omega (arith, fits c)
+
+returns-2 : tie.Need-returns-2
+returns-2 c =
+    let a = c .before .before .before .before .before .args in
+    let v = c .before .e .given in
+    refused-then (itemOf (typeTables (now (a .s)))) startsOf (userFbOf (a .index)) (faultOf (v .0 .0)) (rw (v .1) at (c .before .before .before .tables-of .ensures .0))
+
+returns-3 : tie.Need-returns-3
+returns-3 c =
+    let a = c .before .before .before .before .before .before .before .before .before .before .args in
+    let v = c .before .before .before .before .before .before .t .given in
+    let w = c .before .e2 .given in
+    user-fb-found (now (a .s)) (v .0 .0) (rw (v .1) at (c .before .before .before .before .before .before .before .before .tables-of .ensures .0)) (a .index) (c .before .before .before .before .if1 .left) (stops (faultOf (w .0 .0))) (reads-told userFb (now (a .s)) (v .0 .0 .«user_fbs» .at + 8 * a .index) (ap userFbStep (w .1)) (c .before .before .before .read-user-fb .ensures))
+
+returns-4 : tie.Need-returns-4
+returns-4 c =
+    let a = c .before .before .before .before .before .before .before .before .before .before .args in
+    let v = c .before .before .before .before .before .before .t .given in
+    let w = c .before .x .given in
+    user-fb-found (now (a .s)) (v .0 .0) (rw (v .1) at (c .before .before .before .before .before .before .before .before .tables-of .ensures .0)) (a .index) (c .before .before .before .before .if1 .left) (item (userFbIn (w .0 .0)) (w .0 .1 .0)) (reads-told userFb (now (a .s)) (v .0 .0 .«user_fbs» .at + 8 * a .index) (ap userFbStep (w .1)) (c .before .before .before .read-user-fb .ensures))
+
+pub find-user-fb-spec : {M : Type 1} → statement M
+find-user-fb-spec =
+    tie.close
+    (tie.spec
+    (λ c κs. search needs)
+    (λ c. search needs)
+    (λ c. search needs)
+    returns
+    mul-read-user-fb
+    add-read-user-fb
+    (λ c κs. search needs)
+    (λ c. search needs)
+    (λ c. search needs)
+    returns-2
+    returns-3
+    returns-4)
