@@ -139,11 +139,12 @@ sourceFileNext (nextFile.Entry v t) = entry (sourceFileIn v) t
 
 -- Enumerations
 
--- the names of a table of the section; none where it does not read
+-- the entries that were read; none where the table does not read
 abbrev pub itemsOf : {A : Type 0} → Read (List A) → List A
 itemsOf (got xs rest) = xs
 itemsOf (fault f) = []
 
+-- the value names of a table of the section; the place of a table without values is left free
 abbrev pub valuesIn : ℕ → List ℕ → Table → List Place
 valuesIn base s t = itemsOf (leftOf (name (keepIn base s)) s t)
 

@@ -19,7 +19,7 @@ use Rattle.debug_text.specs.declared.NameAnswer.the-variants as answerNa
 use Rattle.debug_text.specs.declared.NameNext.{NameNext}
 use Rattle.debug_text.specs.declared.NameNext.the-variants as nextName
 
--- the section `s` at `base` lies in a file, so that places in the file can be added up
+-- the places of a section `s` at `base`, as those of every section that lies in a file, can be added up without a wrap
 abbrev pub InFile : ℕ → List ℕ → Type 0
 InFile base s = base + length s < 4294967296
 
@@ -27,6 +27,7 @@ InFile base s = base + length s < 4294967296
 abbrev pub keepIn : ℕ → List ℕ → Keep Place
 keepIn base s = byPlace (record { offset = base; size = length s })
 
+-- a fault never leaves the section: one that does not read is 15
 abbrev pub faultOf : DebugFault → Fault
 faultOf debugFault.Short = shortInput
 faultOf (debugFault.BadText n) = badText n

@@ -15,7 +15,7 @@ use Rattle.hasher.specs.State.{fed}
 use Rattle.hasher.specs.declared.Hasher.{Hasher}
 use Rattle.blake3.specs.Blake3.{blake3, hashAsked}
 
--- The content hash: 10 over the library's limit, 1 where the file has no whole header, 4 where a section of more than 0 bytes does not lie in
+-- The content hash: 10 over the file's limit of 65,536 bytes, 1 where the file has no whole header, 4 where a section of more than 0 bytes does not lie in
 -- the file behind the header, else BLAKE3 of the hashed string
 unfoldable pub contentHash : List ℕ → Directory → Got (List ℕ)
 contentHash f d = do
@@ -24,7 +24,7 @@ contentHash f d = do
   s ← hashedString f d
   found (blake3 s)
 
--- whether a header's content hash is that; an all-zero one is not checked
+-- whether a header's content hash is that; an all-zero one is not checked, and nothing is asked of the file then
 unfoldable pub contentChecked : List ℕ → Header → Got (Unit {0})
 contentChecked f h =
     let checked = contentHash f (h .directory) >>= λ d. need (same d (h .contentHash)) contentHashMismatch in

@@ -1,4 +1,4 @@
--- For a file that may be loaded these are the format's own tests, BLAKE3 being the hash.
+-- For a file with a header within the limit, and for a section within the hash's limit, these are the format's own tests, BLAKE3 being the hash.
 use Prim.Native.Nat.{ℕ, _≤_}
 use mathlib.Core.Path.{_≡_}
 use mathlib.Core.List.{List}

@@ -73,7 +73,7 @@ fn fed_sections(h: Hasher, file: &[u8], sections: SectionDirectory) -> Hasher
     constants.update(bytes_of(file, sections.code_section))
 }
 
-// The content hash of a file whose sections lie as said.
+// The content hash of a file, by the places that `sections` says, which nothing vouches for: a refusal, or the digest.
 pub fn content_hash(file: &[u8], sections: SectionDirectory) -> HashAnswer
     ensures { λ r. ⌜ hashFrom r ≡ contentHash (now (file .entry)) (directoryIn sections) ⌝ }
 {
@@ -92,7 +92,7 @@ pub fn content_hash(file: &[u8], sections: SectionDirectory) -> HashAnswer
 }
 
 // Whether the header's content hash is the file's; an all-zero one is not checked.
-pub fn content_fits(file: &[u8], header: FileHeader) -> Checked
+pub fn check_content_hash(file: &[u8], header: FileHeader) -> Checked
     ensures { λ r. ⌜ checkedFrom r ≡ contentChecked (now (file .entry)) (headerIn header) ⌝ }
 {
     if header.content_hash.is_zero() {
@@ -110,7 +110,7 @@ pub fn content_fits(file: &[u8], header: FileHeader) -> Checked
 }
 
 // Whether a debug hash fits its section; zero fits anything.
-pub fn debug_hash_fits(debug_hash: Digest, section: &[u8]) -> bool
+pub fn debug_hash_matches(debug_hash: Digest, section: &[u8]) -> bool
     ensures { λ r. ⌜ r ≡ debugFits (digestBytes «debug_hash») (now (section .entry)) ⌝ }
 {
     if debug_hash.is_zero() {

@@ -47,7 +47,7 @@ abbrev pub fieldStep : FieldStep → Step Field
 fieldStep (field-step.Refused e) = stops (faultOf e)
 fieldStep (field-step.Entry f m) = item (fieldIn f) m
 
--- FB types: the code has an FB type's head, and its fields are there
+-- FB types: the code has an FB type's head, and its fields read, as many as the head says
 
 abbrev pub headIn : FbTypeDescriptor → FbTypeHead
 headIn d = record { id = d .«type_id» .0; fieldCount = d .«num_fields» }
