@@ -76,7 +76,7 @@ pub put-more : (k n : ℕ) → (k ≡ 0 → ⊥) → 10 ≤ n → digits k n ≡
 put-more zero n h h′ = absurd (h refl)
 put-more (suc k) n h h′ = rw sub-one (digits-more k n h′)
 
-either-short : (z : Bool) (k : ℕ) (s t : List ℕ) → length s ≤ k → length t ≤ k → length (cond z s t) ≤ k
+pub either-short : (z : Bool) (k : ℕ) (s t : List ℕ) → length s ≤ k → length t ≤ k → length (cond z s t) ≤ k
 either-short true k s t h h′ = h
 either-short false k s t h h′ = h′
 
