@@ -18,4 +18,14 @@ use Rattle.listing.specs.Laws.{AllLaws}
 
 pub laws : AllLaws
 unfolding load headerOf runtimeOf directoryOf le bytes contentFits readIn sectionIn isInside taskTable task program typesFound hasTypes typeTables fbType array userFb constants constant keptOf codeOf function debugFound debugOf debugHashFits debugTables rowsOf tableOf tagOf sizeOf kindOf debug.line digits numbers hexes each indexedFrom
-laws hash = record { mill-listed = refl }
+laws hash =
+    record {
+      mill-listed = refl;
+      tiny-listed = refl;
+      short-refused = refl;
+      one-value = refl;
+      two-values = refl;
+      types-listed = refl;
+      nothing-kept = refl;
+      none-counted = refl;
+    }

@@ -9,7 +9,8 @@ use Rattle.format.specs.Types.{FbType, TypeTables}
 use Rattle.format.specs.Debug.{Tables}
 use Rattle.format.specs.Record.{debugCounts}
 use Rattle.format.specs.Load.{Loaded}
-use Rattle.listing.specs.Lines.{containerLine, taskLine, programLine, fbTypeLine, fieldLine, arrayLine, userFbLine, constantLine, functionLine, debugLine, lineLine, endLine, refusedLine}
+use Rattle.entry_lines.specs.Lines.{taskLine, programLine, fbTypeLine, fieldLine, arrayLine, userFbLine, constantLine, functionLine, lineLine}
+use Rattle.listing.specs.Lines.{containerLine, debugLine, endLine, refusedLine}
 
 -- a line for each entry
 unfoldable pub each : {A : Type 0} → (A → List ℕ) → List A → List ℕ

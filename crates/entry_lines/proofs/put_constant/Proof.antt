@@ -1,9 +1,9 @@
--- `listing::put_constant` meets its contract: each arm's bytes are those that are kept.
+-- `entry_lines::put_constant` meets its contract: each arm's bytes are those that are kept.
 use native.Mathlib.Omega.{arith}
-use Rattle.listing.proofs.Bytes.{no-longer}
+use Rattle.entry_lines.proofs.Bytes.{no-longer}
 use borrow.Author.Needs.{needs}
-use Rattle.listing.proofs.put_constant.Statement.{statement}
-use Rattle.listing.proofs.put_constant.Tie as tie
+use Rattle.entry_lines.proofs.put_constant.Statement.{statement}
+use Rattle.entry_lines.proofs.put_constant.Tie as tie
 
 put-bytes-line-requires-2 : tie.Need-put-bytes-line-requires-2
 put-bytes-line-requires-2 c κs = omega (arith, no-longer _ _ _ (c .before .before .before .of .ensures))

@@ -1,7 +1,7 @@
--- `listing::put_field` meets its contract.
+-- `entry_lines::put_field` meets its contract.
 use borrow.Author.Needs.{needs}
-use Rattle.listing.proofs.put_field.Statement.{statement}
-use Rattle.listing.proofs.put_field.Tie as tie
+use Rattle.entry_lines.proofs.put_field.Statement.{statement}
+use Rattle.entry_lines.proofs.put_field.Tie as tie
 
 returns : tie.Need-returns
 returns c = rw (← c .before .before .before .before .before .before .before .number .ensures) (c .before .before .put-line .ensures)

@@ -1,7 +1,7 @@
--- `listing::put_array` meets its contract: each arm's line is the one that the byte size gives.
+-- `entry_lines::put_array` meets its contract: each arm's line is the one that the byte size gives.
 use borrow.Author.Needs.{needs}
-use Rattle.listing.proofs.put_array.Statement.{statement}
-use Rattle.listing.proofs.put_array.Tie as tie
+use Rattle.entry_lines.proofs.put_array.Statement.{statement}
+use Rattle.entry_lines.proofs.put_array.Tie as tie
 
 returns : tie.Need-returns
 returns c = rw (← c .before .before .before .before .before .before .before .before .before .before .before .before .byte-size .ensures, c .before .before .before .before .before .before .enum-told .given .1) (c .before .before .put-dash-line .ensures)

@@ -1,11 +1,11 @@
--- `listing::number_bytes` meets its contract. The loop's invariant: the first i bytes and those of what is left are those of the number.
+-- `entry_lines::number_bytes` meets its contract. The loop's invariant: the first i bytes and those of what is left are those of the number.
 use Prim.Native.Nat.{_-_}
 use mathlib.Core.Path.{refl}
 use native.Mathlib.Omega.{arith}
-use Rattle.listing.proofs.Bytes.{CutOff, cut-next, cut-end}
+use Rattle.entry_lines.proofs.Bytes.{CutOff, cut-next, cut-end}
 use borrow.Author.Needs.{needs}
-use Rattle.listing.proofs.number_bytes.Statement.{statement}
-use Rattle.listing.proofs.number_bytes.Tie as tie
+use Rattle.entry_lines.proofs.number_bytes.Statement.{statement}
+use Rattle.entry_lines.proofs.number_bytes.Tie as tie
 
 abbrev Inv-loop : tie.InvT-loop
 Inv-loop n b₀ left₀ i₀ b left i = CutOff n b left i

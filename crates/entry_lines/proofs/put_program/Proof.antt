@@ -1,8 +1,8 @@
--- `listing::put_program` meets its contract.
+-- `entry_lines::put_program` meets its contract.
 use native.Mathlib.Omega.{arith}
 use borrow.Author.Needs.{needs}
-use Rattle.listing.proofs.put_program.Statement.{statement}
-use Rattle.listing.proofs.put_program.Tie as tie
+use Rattle.entry_lines.proofs.put_program.Statement.{statement}
+use Rattle.entry_lines.proofs.put_program.Tie as tie
 
 cast-t13 : tie.Need-cast-t13
 cast-t13 c = omega (arith, c .struct-known8 .given)
