@@ -10,7 +10,8 @@ ghost use Rattle.type_entries.specs.Answers.{headIn, fieldIn, arrayIn, userFbIn
 ghost use Rattle.code_section.specs.Answers.{entryIn};
 ghost use Rattle.line_map.specs.Answers.{lineIn};
 ghost use Rattle.entry_lines.specs.Lines.{lineRoom, taskLine, programLine, fbTypeLine, fieldLine, arrayLine, userFbLine, constantLine, functionLine, lineLine};
-ghost use Rattle.entry_lines.specs.Answers.{constantOf};
+ghost use Rattle.entry_lines.specs.Answers.{withBytes};
+ghost use Rattle.entry_lines.specs.Laws.{Laws};
 use base::id_types::ConstantIndex;
 use code_section::FuncEntry;
 use constant_pool::ConstEntry;
@@ -140,7 +141,7 @@ pub fn put_constant(
     file: &[u8],
 ) -> usize
     requires { ⌜ at + 2 * length (now file) + 100 ≤ length (now out) ⌝ }
-    ensures { λ r. ⌜ Wrote (now (out .entry)) at (constantLine (index .0) (constantOf (now (file .entry)) c)) (now (out .exit)) r ⌝ }
+    ensures { λ r. ⌜ Wrote (now (out .entry)) at (constantLine (index .0) (withBytes (now (file .entry)) c)) (now (out .exit)) r ⌝ }
 {
     let const_type = c.const_type;
     let ns = [index.0 as u64, const_type.number() as u64];
@@ -185,3 +186,8 @@ pub fn put_line_entry(out: &mut [u8], at: usize, e: LineMapEntry) -> usize
     ];
     put_line(out, at, b"line", &ns)
 }
+
+// The claims of `specs/Laws.antt` hold. There is no code: the contract makes the check prove them.
+pub fn laws_hold()
+    ensures { λ _. ⌜ Laws ⌝ }
+{}

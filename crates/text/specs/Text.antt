@@ -16,7 +16,7 @@ ascii (string._∷_ c cs) = code c ∷ ascii cs
 
 -- Decimal
 
--- the last k digits of a number, the highest first and with no zero in front
+-- the digits of a number, the highest first; of more than k the last k
 unfoldable pub digits : ℕ → ℕ → List ℕ
 digits zero n = []
 digits (suc k) n = cond (ltb n 10) ((code "0" + n) ∷ []) (digits k (n / 10) ++ ((code "0" + n % 10) ∷ []))

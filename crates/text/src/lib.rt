@@ -31,7 +31,7 @@ pub fn put_bytes(out: &mut [u8], at: usize, bytes: &[u8]) -> usize
     next
 }
 
-// The last `most` decimal digits of n, or all if there are no more.
+// The decimal digits of n; of more than `most` the last `most`.
 fn put_digits(out: &mut [u8], at: usize, n: u64, most: usize) -> usize
     requires { ⌜ at + most ≤ length (now out) ⌝ }
     ensures { λ r. ⌜ Wrote (now (out .entry)) at (digits most n) (now (out .exit)) r ⌝ }
