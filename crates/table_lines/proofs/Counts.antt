@@ -4,7 +4,7 @@ use mathlib.Core.Path.{_≡_, ap}
 use mathlib.Core.List.{List}
 use native.Mathlib.Omega.{arith}
 use lib.Dec.{leb}
-use lib.ListN.{length, drop, length-drop, length-append}
+use lib.ListN.{length, length-drop, length-append}
 use Rattle.reading.specs.Reader.{got, Reader, many, u8, u16, check, bytes, left, _>>=_}
 use Rattle.reading.proofs.Reading.{both}
 use Rattle.reading.proofs.Width.{Width, width-number}

@@ -12,8 +12,9 @@ use Rattle.reading.specs.Reader.{Read, fault, got, Reader}
 use Rattle.reading.specs.Answer.{Got, refused, found, _>>=_, need, itemOf}
 use Rattle.reading.specs.Places.{Next, ends, faulty, entry, nextOf, stepOf, onNext, walked}
 use Rattle.reading.specs.declared.Table.{Table}
+use Rattle.reading.proofs.Parts.{length-part}
 use Rattle.format.specs.Faults.{tooLong}
-use Rattle.format.specs.Parts.{limit, Place, cut}
+use Rattle.format.specs.Parts.{limit, Place, cut, Inside}
 use Rattle.format.specs.Load.{readIn}
 use Rattle.format.specs.Lookups.{readAt}
 use Rattle.format.proofs.Answers.{never, same-found, steps}
@@ -77,6 +78,7 @@ module _ (f : List ℕ) (p : Place) where
   module _ {T : Type 0} (R : Reader T) (a : T) (e : readAt f p R ≡ found a) where
     pub record Read-there : Type 0 where
       pub part : sectionPart f p ≡ found p
+      pub inside : Inside f p
       pub item : itemOf (R (cut f p)) ≡ found a
 
     pub read-there : Read-there
@@ -84,7 +86,7 @@ module _ (f : List ℕ) (p : Place) where
       where
         go : (x : Got Place) → sectionPart f p ≡ x → Read-there
         go (refused g) h = never (section-refused f p R g (sym h) ∙ e)
-        go (found q) h = let k = section-found f p R q (sym h) in record { part = h ∙ ap found (k .same); item = sym (k .reads) ∙ e }
+        go (found q) h = let k = section-found f p R q (sym h) in record { part = h ∙ ap found (k .same); inside = k .inside; item = sym (k .reads) ∙ e }
 
     -- lies in a file within the limit
     pub read-short : length f ≤ limit
@@ -94,6 +96,9 @@ module _ (f : List ℕ) (p : Place) where
         go : (z : Bool) → leb (length f) limit ≡ z → (need z tooLong >>= λ u. readIn f p R) ≡ found a → length f ≤ limit
         go true h e = leb-true (length f) limit h
         go false h e = never e
+
+    pub read-small : length (cut f p) ≤ limit
+    read-small = let i = read-there .inside .within in omega (arith, length-part f (p .offset) (p .size) i, read-short)
 
 -- no text where the walk has no start
 pub text-refused : {T A : Type 0} (x : Got T) (m : T → A) (lines : T → List ℕ) {g : Fault} → refused g ≡ (x >>= λ a. found (m a)) → textOf x lines ≡ []

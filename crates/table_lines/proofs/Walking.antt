@@ -1,8 +1,8 @@
 -- A loop that puts the lines of a walk's entries: what is put and what the rest of the walk gives is the whole text. And the text of a walk that
 -- gives a table is the table's.
 use Prim.Native.Nat.{ℕ, zero, suc, _+_, _-_, _≤_, _<_}
-use mathlib.Core.Path.{_≡_, refl, sym, ap, _∙_}
-use mathlib.Core.List.{List, [], _∷_, _++_, append-nil, append-assoc}
+use mathlib.Core.Path.{_≡_, refl, sym, ap, subst, _∙_}
+use mathlib.Core.List.{List, [], _++_, append-nil, append-assoc}
 use native.Mathlib.Omega.{arith}
 use native.Mathlib.Numerals.{add-one}
 use lib.ListN.{length, length-append}
@@ -11,7 +11,10 @@ use Rattle.reading.specs.Places.{Next, ends, faulty, entry}
 use Rattle.reading.specs.declared.Table.{Table}
 use Rattle.text.specs.Text.{Wrote}
 use Rattle.text.proofs.Putting.{wrote-none, wrote-then}
-use Rattle.table_lines.specs.Walks.{onStep, walkText}
+use Rattle.table_lines.specs.Walks.{walkText}
+
+pub wrote-as : {before after t u : List ℕ} {at r : ℕ} → t ≡ u → Wrote before at t after r → Wrote before at u after r
+wrote-as {before} {after} {at = at} {r = r} e w = subst (λ (x : List ℕ). Wrote before at x after r) e w
 
 -- an entry that is answered is one less to come
 abbrev pub Falls : {A : Type 0} → (Table → Next A) → Type 0

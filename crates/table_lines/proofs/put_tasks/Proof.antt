@@ -5,6 +5,8 @@ use native.Mathlib.Omega.{arith}
 use denote.Ref.{now}
 use Rattle.text.proofs.Putting.{wrote-none}
 use Rattle.base.specs.Section.{placeIn, startFrom}
+use Rattle.format.specs.Tasks.{task, taskTable}
+use Rattle.format.specs.Lookups.{readAt}
 use Rattle.task_table.specs.Lookups.{nextTaskAt}
 use Rattle.task_table.specs.Answers.{taskNextFrom}
 use Rattle.entry_lines.specs.Lines.{taskLine}
@@ -12,8 +14,6 @@ use Rattle.table_lines.specs.Tables.{tasksText}
 use Rattle.table_lines.proofs.Walking.{Left, left-start, left-end, left-ends, left-stops, left-full, left-more}
 use Rattle.table_lines.proofs.Texts.{falls-in, text-refused}
 use Rattle.table_lines.proofs.Starts.{tasks-start}
-use Rattle.format.specs.Tasks.{task, taskTable}
-use Rattle.format.specs.Lookups.{readAt}
 use borrow.Author.Needs.{needs}
 use Rattle.table_lines.proofs.put_tasks.Statement.{statement}
 use Rattle.table_lines.proofs.put_tasks.Tie as tie
