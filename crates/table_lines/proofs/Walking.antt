@@ -78,6 +78,18 @@ module _ {A : Type 0} {step : Table → Next A} {lineOf : ℕ → A → List ℕ
         let r = l .room in
         omega (arith, ap length (l .all), length-append (l .put) (walkText i step lineOf (rest .count) rest))
 
+    -- so is the line of the next entry
+    pub left-next : {a : A} {u : Table} → 0 < rest .count → step rest ≡ entry a u → next + length (lineOf i a) ≤ at + length whole
+    left-next {a} {u} h e =
+        let w = l .wrote .next in
+        let t = rw (text-more i step lineOf rest (rest .count) h e) at (l .all) in
+        omega (
+          arith,
+          ap length t,
+          length-append (l .put) (lineOf i a ++ walkText (i + 1) step lineOf (rest .count - 1) u),
+          length-append (lineOf i a) (walkText (i + 1) step lineOf (rest .count - 1) u),
+        )
+
     -- an entry, and its line is put
     pub left-more : {a : A} {u : Table} {c : List ℕ} {q : ℕ} → Falls step → 0 < rest .count → step rest ≡ entry a u → length c ≡ length after → Wrote after next (lineOf i a) c q
         → Left step lineOf before at whole c (i + 1) q u
