@@ -3,6 +3,7 @@ ghost use Rattle.base.specs.Section.{placeIn};
 ghost use Rattle.entry_lines.specs.Lines.{lineRoom};
 ghost use Rattle.table_lines.specs.Answers.{Puts};
 ghost use Rattle.type_lines.specs.Tables.{fbTypesText, fieldsText, arraysText, userFbsText};
+ghost use Rattle.type_lines.specs.Laws.{Laws};
 use base::section::Section;
 use base::section::StartAnswer;
 use entry_lines::put_array;
@@ -164,3 +165,8 @@ pub fn put_user_fbs(out: &mut [u8], at: usize, file: &[u8], section: Section) ->
         }
     }
 }
+
+// The claim of `specs/Laws.antt` holds. There is no code: the contract makes the check prove it.
+pub fn laws_hold()
+    ensures { λ _. ⌜ Laws ⌝ }
+{}
