@@ -57,12 +57,8 @@ pub fn put_tasks(out: &mut [u8], at: usize, file: &[u8], section: Section) -> Pu
                     return Put::NoRoom;
                 }
                 match next_task(file, section, rest) {
-                    TaskNext::End => {
-                        return Put::At(next);
-                    }
-                    TaskNext::Refused(_) => {
-                        return Put::At(next);
-                    }
+                    TaskNext::End => return Put::At(next),
+                    TaskNext::Refused(_) => return Put::At(next),
                     TaskNext::Entry(x, more) => {
                         next = put_task(out, next, x);
                         rest = more;
@@ -91,12 +87,8 @@ pub fn put_programs(out: &mut [u8], at: usize, file: &[u8], section: Section) ->
                     return Put::NoRoom;
                 }
                 match next_program(file, section, rest) {
-                    ProgramNext::End => {
-                        return Put::At(next);
-                    }
-                    ProgramNext::Refused(_) => {
-                        return Put::At(next);
-                    }
+                    ProgramNext::End => return Put::At(next),
+                    ProgramNext::Refused(_) => return Put::At(next),
                     ProgramNext::Entry(x, more) => {
                         next = put_program(out, next, x);
                         rest = more;
@@ -127,12 +119,8 @@ pub fn put_constants(out: &mut [u8], at: usize, file: &[u8], section: Section) -
                     return Put::NoRoom;
                 }
                 match next_constant(file, section, rest) {
-                    ConstNext::End => {
-                        return Put::At(next);
-                    }
-                    ConstNext::Refused(_) => {
-                        return Put::At(next);
-                    }
+                    ConstNext::End => return Put::At(next),
+                    ConstNext::Refused(_) => return Put::At(next),
                     ConstNext::Entry(x, more) => {
                         next = put_constant(out, next, ConstantIndex(index), x, file);
                         index += 1;
@@ -168,12 +156,8 @@ pub fn put_functions(
                     return Put::NoRoom;
                 }
                 match next_function(file, section, rest) {
-                    FuncNext::End => {
-                        return Put::At(next);
-                    }
-                    FuncNext::Refused(_) => {
-                        return Put::At(next);
-                    }
+                    FuncNext::End => return Put::At(next),
+                    FuncNext::Refused(_) => return Put::At(next),
                     FuncNext::Entry(x, more) => {
                         next = put_function(out, next, x);
                         rest = more;
@@ -202,12 +186,8 @@ pub fn put_lines(out: &mut [u8], at: usize, file: &[u8], section: Section) -> Pu
                     return Put::NoRoom;
                 }
                 match next_line(file, section, rest) {
-                    LineNext::End => {
-                        return Put::At(next);
-                    }
-                    LineNext::Refused(_) => {
-                        return Put::At(next);
-                    }
+                    LineNext::End => return Put::At(next),
+                    LineNext::Refused(_) => return Put::At(next),
                     LineNext::Entry(x, more) => {
                         next = put_line_entry(out, next, x);
                         rest = more;

@@ -39,12 +39,8 @@ fn put_fields(out: &mut [u8], at: usize, file: &[u8], section: Section, fields: 
             return Put::NoRoom;
         }
         match next_field(file, section, rest) {
-            FieldNext::End => {
-                return Put::At(next);
-            }
-            FieldNext::Refused(_) => {
-                return Put::At(next);
-            }
+            FieldNext::End => return Put::At(next),
+            FieldNext::Refused(_) => return Put::At(next),
             FieldNext::Entry(x, more) => {
                 next = put_field(out, next, x);
                 rest = more;
@@ -71,18 +67,12 @@ pub fn put_fb_types(out: &mut [u8], at: usize, file: &[u8], section: Section) ->
                     return Put::NoRoom;
                 }
                 match next_fb_type(file, section, rest) {
-                    FbTypeNext::End => {
-                        return Put::At(next);
-                    }
-                    FbTypeNext::Refused(_) => {
-                        return Put::At(next);
-                    }
+                    FbTypeNext::End => return Put::At(next),
+                    FbTypeNext::Refused(_) => return Put::At(next),
                     FbTypeNext::Entry(x, fields, more) => {
                         let behind = put_fb_type(out, next, x);
                         match put_fields(out, behind, file, section, fields) {
-                            Put::NoRoom => {
-                                return Put::NoRoom;
-                            }
+                            Put::NoRoom => return Put::NoRoom,
                             Put::At(n) => {
                                 next = n;
                                 rest = more;
@@ -114,12 +104,8 @@ pub fn put_arrays(out: &mut [u8], at: usize, file: &[u8], section: Section) -> P
                     return Put::NoRoom;
                 }
                 match next_array(file, section, rest) {
-                    ArrayNext::End => {
-                        return Put::At(next);
-                    }
-                    ArrayNext::Refused(_) => {
-                        return Put::At(next);
-                    }
+                    ArrayNext::End => return Put::At(next),
+                    ArrayNext::Refused(_) => return Put::At(next),
                     ArrayNext::Entry(x, more) => {
                         next = put_array(out, next, index, x);
                         index += 1;
@@ -149,12 +135,8 @@ pub fn put_user_fbs(out: &mut [u8], at: usize, file: &[u8], section: Section) ->
                     return Put::NoRoom;
                 }
                 match next_user_fb(file, section, rest) {
-                    UserFbNext::End => {
-                        return Put::At(next);
-                    }
-                    UserFbNext::Refused(_) => {
-                        return Put::At(next);
-                    }
+                    UserFbNext::End => return Put::At(next),
+                    UserFbNext::Refused(_) => return Put::At(next),
                     UserFbNext::Entry(x, more) => {
                         next = put_user_fb(out, next, x);
                         rest = more;
