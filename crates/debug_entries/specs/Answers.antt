@@ -1,6 +1,7 @@
 -- What the code's answers mean.
-use Prim.Native.Nat.{ℕ}
+use Prim.Native.Nat.{ℕ, _+_}
 use mathlib.Core.List.{List, []}
+use mathlib.Core.Path.{_≡_}
 use Rattle.reading.specs.Fault.{Fault}
 use Rattle.reading.specs.Answer.{Got, refused, found}
 use Rattle.reading.specs.Places.{Step, stops, item, leftOf, Holds, Next, ends, faulty, entry}
@@ -144,7 +145,7 @@ abbrev pub itemsOf : {A : Type 0} → Read (List A) → List A
 itemsOf (got xs rest) = xs
 itemsOf (fault f) = []
 
--- the value names of a table of the section; the place of a table without values is left free
+-- the value names of a table of the section
 abbrev pub valuesIn : ℕ → List ℕ → Table → List Place
 valuesIn base s t = itemsOf (leftOf (name (keepIn base s)) s t)
 
@@ -165,9 +166,10 @@ enumDefNext base s nextEnum.End = ends
 enumDefNext base s (nextEnum.Fault e) = faulty (faultOf e)
 enumDefNext base s (nextEnum.Entry v t) = entry (enumDefIn base s v) t
 
--- the table of values of an enumeration that is answered reads
-abbrev pub ValuesHold : ℕ → List ℕ → EnumDefEntry → Type 0
-ValuesHold base s v = Holds (name (keepIn base s)) s (v .values) (valuesIn base s (v .values))
+-- the table of values of an enumeration that is answered reads; it stands behind the type's name and a count of two bytes
+pub record ValuesHold (base : ℕ) (s : List ℕ) (v : EnumDefEntry) : Type 0 where
+  pub table : Holds (name (keepIn base s)) s (v .values) (valuesIn base s (v .values))
+  pub place : base + v .values .at ≡ v .«type_name» .offset + v .«type_name» .size + 2
 
 abbrev pub StepHolds : ℕ → List ℕ → EnumDefStep → Type 0
 StepHolds base s (stepEnum.Fault e) = Unit {0}

@@ -1,5 +1,6 @@
 -- A text at a place of the section: what each test of the code says of it.
-use mathlib.Core.Path.{_≡_, refl}
+use mathlib.Core.Path.{_≡_, refl, ap, subst, _∙_}
+use mathlib.Core.Bool.{Bool, true, false}
 use mathlib.Core.List.{List}
 use Prim.Native.Nat.{ℕ, _+_, _-_, _≤_, _<_}
 use native.Mathlib.Omega.{arith}
@@ -7,13 +8,14 @@ use lib.ListN.{length, take, drop, length-drop}
 use borrow.Author.Tests.{eq-eqb, ne-eqb}
 use Rattle.utf8.specs.Utf8.{goodLength, utf8}
 use Rattle.utf8.proofs.Longest.{laws}
-use Rattle.reading.specs.Fault.{shortInput, badText}
+use Rattle.reading.specs.Fault.{Fault, shortInput, badText}
 use Rattle.reading.specs.Numbers.{leAt}
-use Rattle.reading.specs.Reader.{fault, got}
+use Rattle.reading.specs.Reader.{fault, got, check, bytes, number}
+use Rattle.reading.specs.Places.{item, Reads}
 use Rattle.reading.proofs.Parts.{length-part}
-use Rattle.reading.proofs.Reading.{bytes-at, bytes-short, number-at}
-use Rattle.reading.proofs.Width.{Needs, needs-bind, needs-none, fixed-number}
-use Rattle.format.specs.Parts.{Keep}
+use Rattle.reading.proofs.Reading.{never, both, bytes-at, bytes-short, bytes-length, number-at}
+use Rattle.reading.proofs.Width.{Needs, needs-bind, needs-none, fixed-bytes, fixed-number, fixed-width, width-number}
+use Rattle.format.specs.Parts.{Place, Keep}
 use Rattle.format.specs.Debug.{text, name, path}
 use Rattle.debug_text.specs.Answers.{keepIn}
 
@@ -41,6 +43,38 @@ module _ (base : ℕ) (s : List ℕ) (at n : ℕ) where
     text-bad g =
         let l = length-part s at n h in
         rw (bytes-at n s at (at + n) refl h, ne-eqb (goodLength (take n (drop at s))) (length (take n (drop at s))) (λ e. omega arith), length-drop at s)
+
+-- a text's place ends where reading goes on
+pub text-ends : (base : ℕ) (s x : List ℕ) (n : ℕ) (q : Place) (t : List ℕ) → length x ≤ length s → text (keepIn base s) n x ≡ got q t → q .offset + q .size + length t ≡ base + length s
+unfolding text
+text-ends base s x n q t h e =
+    let b = both (bytes n x) e in
+    let u = b .item in
+    let c = both (check (utf8 u) (badText (length x - goodLength u)) (b .middle)) (b .second) in
+    let p = checked-on (utf8 u) (badText (length x - goodLength u)) (b .middle) (c .first) in
+    let w = fixed-width (fixed-bytes n) .takes x u (b .middle) (b .first) in
+    let l = bytes-length n x u (b .middle) (b .first) in
+    let d = ap length (w .0) ∙ length-drop n x in
+    let i = w .1 in
+    let y : keepIn base s u (length x - n) ≡ q = cc in
+    let z : b .middle ≡ t = p ∙ cc in
+    subst (λ (v : Place). v .offset + v .size + length t ≡ base + length s) y (subst (λ (v : List ℕ). base + length s - (length x - n) - length u + length u + length v ≡ base + length s) z (omega arith))
+  where
+    checked-on : (ok : Bool) (f : Fault) (m : List ℕ) {u : Unit {0}} {t : List ℕ} → check ok f m ≡ got u t → m ≡ t
+    checked-on true f m e = cc
+    checked-on false f m e = never e
+
+-- so does a name's
+pub name-ends : (base : ℕ) (s : List ℕ) (at : ℕ) (q : Place) (m : ℕ) → Reads (name (keepIn base s)) s at (item q m) → q .offset + q .size ≡ base + m
+unfolding name
+name-ends base s at q m g =
+    let b = both (number 1 (drop at s)) (g .1) in
+    let w = width-number 1 .takes (drop at s) (b .item) (b .middle) (b .first) in
+    let l = ap length (w .0) ∙ length-drop 1 (drop at s) in
+    let k = text-ends base s (b .middle) (b .item) q (drop m s) (omega (arith, length-drop at s)) (b .second) in
+    let d = length-drop m s in
+    let i = g .0 in
+    omega arith
 
 -- a length, and the text behind it
 module _ {T : Type 0} (keep : Keep T) where

@@ -1,5 +1,5 @@
 -- What the code's answers mean.
-use Prim.Native.Nat.{ℕ, _+_, _<_}
+use Prim.Native.Nat.{ℕ, _+_, _^_, _<_}
 use mathlib.Core.List.{List}
 use lib.ListN.{length}
 use Rattle.reading.specs.Fault.{Fault, shortInput, badText}
@@ -19,9 +19,9 @@ use Rattle.debug_text.specs.declared.NameAnswer.the-variants as answerNa
 use Rattle.debug_text.specs.declared.NameNext.{NameNext}
 use Rattle.debug_text.specs.declared.NameNext.the-variants as nextName
 
--- the places of a section `s` at `base`, as those of every section that lies in a file, can be added up without a wrap
+-- the places of a section `s` at `base`, as those of every section of a file, can be added up without a wrap
 abbrev pub InFile : ℕ → List ℕ → Type 0
-InFile base s = base + length s < 4294967296
+InFile base s = base + length s < 2 ^ 64
 
 -- names and paths are kept by their place in the file
 abbrev pub keepIn : ℕ → List ℕ → Keep Place

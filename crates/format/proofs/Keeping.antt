@@ -154,7 +154,7 @@ module _ (whole : List ℕ) where
         same-bind (map (onEnumeration h)) (onTable h) _ _ _ _ (same-counted (onEnumeration h) (enumeration keep) (enumeration other) same-enumeration) λ es s w. gives (ofEnumerations es) s w
     same-payload unknown size = same-then (onTable h) (bytes size) _ _ (local-bytes size) λ b s w. gives skipped s w
 
-    same-table : (row : Row) → Same (onTable h) (tableOf keep row) (tableOf other row)
+    pub same-table : (row : Row) → Same (onTable h) (tableOf keep row) (tableOf other row)
     unfolding tableOf
     same-table row = same-payload (kindOf (tagOf row)) (sizeOf row)
 

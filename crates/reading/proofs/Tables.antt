@@ -1,6 +1,6 @@
 -- Lookups in a table that is readable: the entry at an index stands where the walk over those before it ends, and in a table of one width at
 -- its index times the width.
-use mathlib.Core.Path.{_≡_, sym, ap, _∙_}
+use mathlib.Core.Path.{_≡_, refl, sym, ap, _∙_}
 use mathlib.Core.List.{List, [], _∷_}
 use Prim.Native.Nat.{ℕ, zero, suc, _+_, _*_, _≤_, _<_}
 use native.Mathlib.Nat.{mul-suc, mul-zero}
@@ -136,3 +136,14 @@ module _ {A : Type 0} (r : Reader A) where
     pub counted-holds : (t : Table) → at + 2 ≤ length s → t .at ≡ at + 2 → t .count ≡ leAt 2 s at → Holds r s t (g .1 .0)
     counted-holds t h p n =
         record { within = omega arith; rest = drop m s; reads = ap (λ (i : ℕ). many (t .count) r (drop i s)) p ∙ sym (counted-as r s at (t .count) h n) ∙ g .1 .1 }
+
+  -- a table with its count in front that reads stands behind the count
+  pub counted-stands : (s : List ℕ) (at : ℕ) (xs : List A) (x : List ℕ) → at ≤ length s → counted r (drop at s) ≡ got xs x → Holds r s (record { at = at + 2; count = length xs }) xs
+  counted-stands s at xs x h c = go (decLe (at + 2) (length s))
+    where
+      go : Dec (at + 2 ≤ length s) → Holds r s (record { at = at + 2; count = length xs }) xs
+      go (yes i) =
+          let e = sym (counted-as r s at (leAt 2 s at) i refl) ∙ c in
+          let l = many-length (leAt 2 s at) (drop (at + 2) s) xs x e in
+          record { within = i; rest = x; reads = ap (λ (n : ℕ). many n r (drop (at + 2) s)) l ∙ e }
+      go (no i) = never (sym (counted-short r s at (omega arith)) ∙ c)

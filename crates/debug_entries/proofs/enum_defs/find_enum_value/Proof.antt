@@ -16,7 +16,7 @@ returns-2 c = values-then _ _ _ _ _ _ (ap (enumDefFrom _ _) (sym (c .enum-told .
 returns-3 : tie.Need-returns-3
 returns-3 c =
     let h = subst (AnswerHolds _ _) (c .before .before .before .x .given .1) (c .before .before .before .before .before .find-enum-def .ensures .1) in
-    c .find-name .ensures ∙ picked-is _ _ _ _ _ _ (h .rest) (h .reads) ∙ values-then _ _ _ _ _ _ (ap (enumDefFrom _ _) (sym (c .before .before .before .x .given .1)) ∙ c .before .before .before .before .before .find-enum-def .ensures .0)
+    c .find-name .ensures ∙ picked-is _ _ _ _ _ _ (h .table .rest) (h .table .reads) ∙ values-then _ _ _ _ _ _ (ap (enumDefFrom _ _) (sym (c .before .before .before .x .given .1)) ∙ c .before .before .before .before .before .find-enum-def .ensures .0)
 
 pub find-enum-value-spec : {M : Type 1} → statement M
 find-enum-value-spec =

@@ -1,8 +1,12 @@
 -- `debug_entries::enum_defs::read_enum_def` meets its contract: the name, the count, and a walk over the values' names.
 use mathlib.Core.Path.{ap}
 use native.Mathlib.Omega.{arith}
+use denote.Ref.{now}
 use Rattle.reading.proofs.Passing.{goes-told, reads-told}
-use Rattle.debug_text.specs.Answers.{wayOf, textStep}
+use Rattle.format.specs.Debug.{name}
+use Rattle.base.specs.Section.{partIn}
+use Rattle.debug_text.specs.Answers.{keepIn, wayOf, textStep}
+use Rattle.debug_text.proofs.Texts.{name-ends}
 use Rattle.debug_entries.proofs.Entries.{enum-stop, enum-short, enum-fault, enum-read}
 use borrow.Author.Needs.{needs}
 use Rattle.debug_entries.proofs.enum_defs.read_enum_def.Statement.{statement}
@@ -25,8 +29,13 @@ returns-3 c =
 
 returns-4 : tie.Need-returns-4
 returns-4 c =
-    let l = reads-told _ _ _ (ap textStep (c .before .before .before .before .before .before .before .type-name .given .1)) (c .before .before .before .before .before .before .before .before .before .read-name .ensures) .0 in
-    enum-read _ _ _ _ _ (ap textStep (c .before .before .before .before .before .before .before .type-name .given .1)) (c .before .before .before .before .before .before .before .before .before .read-name .ensures) _ (omega arith) (c .before .before .before .before .u16-at .ensures) _ (goes-told _ _ _ (ap wayOf (c .before .m .given .1)) (c .before .before .before .skip-names .ensures))
+    let a = c .before .before .before .before .before .before .before .before .before .before .before .args in
+    let v = c .before .before .before .before .before .before .before .type-name .given in
+    let e = ap textStep (v .1) in
+    let g = c .before .before .before .before .before .before .before .before .before .read-name .ensures in
+    let l = reads-told _ _ _ e g .0 in
+    let k = enum-read _ _ _ _ _ e g _ (omega arith) (c .before .before .before .before .u16-at .ensures) _ (goes-told _ _ _ (ap wayOf (c .before .m .given .1)) (c .before .before .before .skip-names .ensures)) in
+    (k .0, record { table = k .1; place = let n = name-ends (a .base) (now (a .s)) (a .at) (partIn (v .0 .0)) (v .0 .1 .0) (reads-told (name (keepIn (a .base) (now (a .s)))) (now (a .s)) (a .at) e g) in omega arith })
 
 pub read-enum-def-spec : {M : Type 1} → statement M
 read-enum-def-spec =

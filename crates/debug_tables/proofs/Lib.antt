@@ -1,0 +1,4 @@
+pub mod Payloads
+pub mod Rows
+pub mod Standing
+pub mod Counts

@@ -1,0 +1,114 @@
+-- The rows and their payloads, one turn after the other.
+use mathlib.Core.Path.{_≡_, refl, sym, ap, _∙_}
+use mathlib.Core.List.{List, [], _∷_}
+use Prim.Native.Nat.{ℕ, suc, _+_, _*_, _-_, _≤_, _<_}
+use native.Mathlib.Nat.{add-zero, sub-zero}
+use native.Mathlib.Omega.{arith}
+use lib.ListN.{length, take, drop, length-drop}
+use lib.Seq.{drop-drop}
+use Rattle.reading.specs.Fault.{Fault, shortInput}
+use Rattle.reading.specs.Numbers.{leAt}
+use Rattle.reading.specs.Reader.{fault, got, next, many, bytes}
+use Rattle.reading.specs.Answer.{refused, found, itemOf}
+use Rattle.reading.specs.declared.Table.{Table}
+use Rattle.reading.proofs.Parts.{part-of-part}
+use Rattle.reading.proofs.Reading.{both, bytes-at, number-at, number-short}
+use Rattle.reading.proofs.Width.{fixed-bytes, fixed-many}
+use Rattle.format.specs.Parts.{Keep}
+use Rattle.format.specs.Debug.{Row, tagOf, sizeOf, Kind, lines, variables, functions, strings, files, enumerations, unknown, kindOf, payload, tableOf, rowsOf}
+use Rattle.debug_tables.specs.Starts.{noStarts, putAs, putStart, startsOf, debugStarts}
+use Rattle.debug_tables.specs.Answers.{PayloadIs, SmallCounts}
+use Rattle.debug_tables.specs.declared.DebugTables.{DebugTables}
+
+module _ {T : Type 0} (keep : Keep T) (s : List ℕ) where
+  -- a section that is too short for its count or its rows
+  pub read-short : length s < 2 → refused shortInput ≡ itemOf (debugStarts keep s)
+  unfolding debugStarts rowsOf
+  read-short h = rw (number-short 2 s h)
+
+  pub read-few : (n : ℕ) → 2 ≤ length s → n ≡ leAt 2 s 0 → length s < 2 + 8 * n → refused shortInput ≡ itemOf (debugStarts keep s)
+  unfolding debugStarts rowsOf
+  read-few n h e l = let d = length-drop 2 s in rw (number-at 2 s 0 2 refl h, ← e, fixed-many n (fixed-bytes 8) .short (drop 2 s) (omega arith))
+
+  -- `i` of `n` rows are done, and their payloads up to `p`: the rows that are left, and the tables so far
+  pub record Going (n p i : ℕ) (u : DebugTables) : Type 0 where
+    pub rows : List Row
+    pub left : many (n - i) (bytes 8) (drop (2 + 8 * i) s) ≡ got rows (drop (2 + 8 * n) s)
+    pub same : debugStarts keep s ≡ startsOf keep (length s) rows u (drop p s)
+
+  rows-read : (n : ℕ) (rows : List Row) (rest : List ℕ) → 2 ≤ length s → n ≡ leAt 2 s 0 → many n (bytes 8) (drop 2 s) ≡ got rows rest
+      → debugStarts keep s ≡ startsOf keep (length s) rows noStarts rest
+  unfolding debugStarts rowsOf
+  rows-read n rows rest h e m = rw (number-at 2 s 0 2 refl h, ← e, m)
+
+  pub going-start : (n : ℕ) → 2 + 8 * n ≤ length s → n ≡ leAt 2 s 0 → Going n (2 + 8 * n) 0 noStarts
+  going-start n h e =
+      let l = length-drop 2 s in
+      let w = fixed-many n (fixed-bytes 8) .whole (drop 2 s) (omega arith) in
+      let m : many n (bytes 8) (drop 2 s) ≡ got (w .0) (drop (2 + 8 * n) s) = w .1 ∙ ap (got (w .0)) (drop-drop (8 * n) 2 s) in
+      record { rows = w .0; left = rw (sub-zero n) m; same = rows-read n (w .0) (drop (2 + 8 * n) s) (omega arith) e m }
+
+  pub going-end : (n p i : ℕ) (u : DebugTables) → n ≤ i → Going n p i u → found u ≡ itemOf (debugStarts keep s)
+  going-end n p i u h g =
+      let z : n - i ≡ 0 = omega arith in
+      let e : got [] (drop (2 + 8 * i) s) ≡ got (g .rows) (drop (2 + 8 * n) s) = rw z at (g .left) in
+      let r : g .rows ≡ [] = cc in
+      sym (ap itemOf (g .same ∙ ap (λ (x : List Row). startsOf keep (length s) x u (drop p s)) r))
+
+  -- a turn: the row at hand is read by its tag and size
+  module _ (n p i : ℕ) (u : DebugTables) (tag size : ℕ) (inside : 2 + 8 * n ≤ length s) (within : p ≤ length s) (h : i < n)
+      (tagged : tag ≡ leAt 2 s (2 + 8 * i)) (sized : size ≡ leAt 4 s (2 + 8 * i + 4)) (k : Kind) (kind : k ≡ kindOf tag) (g : Going n p i u) where
+    row : Row
+    row = take 8 (drop (2 + 8 * i) s)
+
+    row-reads : tableOf keep row (drop p s) ≡ payload keep k size (drop p s)
+    unfolding tableOf tagOf sizeOf row
+    row-reads =
+        let a = part-of-part s (2 + 8 * i) 8 0 2 (omega arith) in
+        let b = part-of-part s (2 + 8 * i) 8 4 4 (omega arith) in
+        rw (kind, tagged, sized, a, b, add-zero (2 + 8 * i))
+
+    others : (ds : List Row) × (g .rows ≡ row ∷ ds) × (many (n - (i + 1)) (bytes 8) (drop (2 + 8 * (i + 1)) s) ≡ got ds (drop (2 + 8 * n) s))
+    unfolding row
+    others =
+        let z : n - i ≡ suc (n - (i + 1)) = omega arith in
+        let y = bytes-at 8 s (2 + 8 * i) (2 + 8 * (i + 1)) (omega arith) (omega arith) in
+        let e : next (bytes 8 (drop (2 + 8 * i) s)) (λ r x. next (many (n - (i + 1)) (bytes 8) x) (λ rs. got (r ∷ rs))) ≡ got (g .rows) (drop (2 + 8 * n) s) = rw z at (g .left) in
+        let b = both (many (n - (i + 1)) (bytes 8) (drop (2 + 8 * (i + 1)) s)) (rw y at e) in
+        let q : b .middle ≡ drop (2 + 8 * n) s = cc in
+        (b .item, cc, b .first ∙ ap (got (b .item)) q)
+
+    section-is : debugStarts keep s ≡ next (payload keep k size (drop p s)) (λ x. startsOf keep (length s) (others .0) (putStart x p u))
+    section-is =
+        let d = length-drop p s in
+        let z : length s - length (drop p s) ≡ p = omega arith in
+        g .same
+        ∙ ap (λ (rows : List Row). startsOf keep (length s) rows u (drop p s)) (others .1)
+        ∙ ap (λ (x : ℕ). next (tableOf keep row (drop p s)) (λ y. startsOf keep (length s) (others .0) (putStart y x u))) z
+        ∙ ap (λ x. next x (λ y. startsOf keep (length s) (others .0) (putStart y p u))) row-reads
+
+    pub going-bad : (f : Fault) → payload keep k size (drop p s) ≡ fault f → refused f ≡ itemOf (debugStarts keep s)
+    going-bad f e = sym (ap itemOf (section-is ∙ ap (λ x. next x (λ y. startsOf keep (length s) (others .0) (putStart y p u))) e))
+
+    pub going-on : (t : Table) (m : ℕ) (v : DebugTables) → PayloadIs keep k size s p t m → v ≡ putAs k t u → Going n m (i + 1) v
+    going-on t m v q e =
+        record {
+          rows = others .0;
+          left = others .2;
+          same = section-is
+              ∙ ap (λ x. next x (λ y. startsOf keep (length s) (others .0) (putStart y p u))) (q .reads)
+              ∙ ap (λ (w : DebugTables). startsOf keep (length s) (others .0) w (drop m s)) (sym (e ∙ q .start u));
+        }
+
+-- counts have two bytes
+pub none-small : SmallCounts noStarts
+none-small = record { lines = omega arith; variables = omega arith; functions = omega arith; strings = omega arith; files = omega arith; enumerations = omega arith }
+
+pub put-small : (k : Kind) (t : Table) (u : DebugTables) → t .count < 65536 → SmallCounts u → SmallCounts (putAs k t u)
+put-small lines t u h s = record { lines = h; variables = s .variables; functions = s .functions; strings = s .strings; files = s .files; enumerations = s .enumerations }
+put-small variables t u h s = record { lines = s .lines; variables = h; functions = s .functions; strings = s .strings; files = s .files; enumerations = s .enumerations }
+put-small functions t u h s = record { lines = s .lines; variables = s .variables; functions = h; strings = s .strings; files = s .files; enumerations = s .enumerations }
+put-small strings t u h s = record { lines = s .lines; variables = s .variables; functions = s .functions; strings = h; files = s .files; enumerations = s .enumerations }
+put-small files t u h s = record { lines = s .lines; variables = s .variables; functions = s .functions; strings = s .strings; files = h; enumerations = s .enumerations }
+put-small enumerations t u h s = record { lines = s .lines; variables = s .variables; functions = s .functions; strings = s .strings; files = s .files; enumerations = h }
+put-small unknown t u h s = s

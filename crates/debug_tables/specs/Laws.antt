@@ -1,0 +1,31 @@
+-- What holds of a section's tables in force: they are told exactly where the section reads, and each stands where it is told.
+use Prim.Native.Nat.{ℕ}
+use mathlib.Core.Path.{_≡_}
+use mathlib.Core.List.{List}
+use Rattle.reading.specs.Fault.{Fault}
+use Rattle.reading.specs.Answer.{refused, found, itemOf}
+use Rattle.reading.specs.Places.{Holds}
+use Rattle.format.specs.Parts.{Keep}
+use Rattle.format.specs.Debug.{line, variable, functionName, stringLayout, sourceFile, enumeration, Tables, debugTables}
+use Rattle.debug_text.specs.Answers.{keepIn}
+use Rattle.debug_tables.specs.declared.DebugTables.{DebugTables}
+use Rattle.debug_tables.specs.Starts.{debugStarts}
+
+-- each table stands in the section `s` where `u` says
+pub record Standing {T : Type 0} (keep : Keep T) (s : List ℕ) (u : DebugTables) (t : Tables T) : Type 0 where
+  pub lines : Holds line s (u .lines) (t .lines)
+  pub variables : Holds (variable keep) s (u .variables) (t .variables)
+  pub functions : Holds (functionName keep) s (u .functions) (t .functions)
+  pub strings : Holds stringLayout s (u .strings) (t .strings)
+  pub files : Holds (sourceFile keep) s (u .files) (t .files)
+  pub enumerations : Holds (enumeration keep) s (u .enumerations) (t .enumerations)
+
+-- a section that reads, with its tables
+pub record Readable {T : Type 0} (keep : Keep T) (s : List ℕ) (u : DebugTables) : Type 0 where
+  pub tables : Tables T
+  pub reads : itemOf (debugTables keep s) ≡ found tables
+  pub stand : Standing keep s u tables
+
+pub record Laws : Type 0 where
+  pub unreadable : (base : ℕ) (s : List ℕ) (f : Fault) → itemOf (debugStarts (keepIn base s) s) ≡ refused f → itemOf (debugTables (keepIn base s) s) ≡ refused f
+  pub readable : (base : ℕ) (s : List ℕ) (u : DebugTables) → itemOf (debugStarts (keepIn base s) s) ≡ found u → Readable (keepIn base s) s u

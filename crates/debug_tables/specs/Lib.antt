@@ -1,0 +1,3 @@
+pub mod Starts
+pub mod Answers
+pub mod Laws

@@ -1,0 +1,266 @@
+// The rows of the debug section, and where its tables in force stand. `s` is the section, and `base` its place in the file.
+use debug_entries::enum_defs::skip_enum_defs;
+use debug_entries::func_names::skip_func_names;
+use debug_entries::source_files::skip_source_files;
+use debug_entries::string_layouts::skip_string_layouts;
+use debug_entries::var_names::skip_var_names;
+use debug_text::DebugFault;
+use debug_text::DebugWalk;
+use line_map::lines_fit;
+use reading::Table;
+use reading::u16_at;
+use reading::u32_at;
+ghost use mathlib.Core.Path.{_≡_};
+ghost use Prim.Native.Nat.{_≤_};
+ghost use lib.ListN.{length};
+ghost use Rattle.reading.specs.Reader.{many};
+ghost use Rattle.reading.specs.Answer.{itemOf};
+ghost use Rattle.reading.specs.Places.{Goes};
+ghost use Rattle.format.specs.Debug.{line, kindOf};
+ghost use Rattle.format.specs.Load.{debugOf};
+ghost use Rattle.format.specs.Record.{debugCounts};
+ghost use Rattle.debug_text.specs.Answers.{InFile, keepIn, wayOf};
+ghost use Rattle.debug_tables.specs.Starts.{noStarts, isListed, entriesOf, putAs, debugStarts};
+ghost use Rattle.debug_tables.specs.Answers.{kindIn, PayloadReads, tablesFrom, Small, maybeDebug};
+ghost use Rattle.debug_tables.specs.Laws.{Laws};
+
+const TAG_LINE_MAP: u16 = 1;
+
+const TAG_VAR_NAME: u16 = 2;
+
+const TAG_FUNC_NAME: u16 = 3;
+
+const TAG_STRING_LAYOUT: u16 = 4;
+
+const TAG_SOURCE_FILE: u16 = 6;
+
+const TAG_ENUM_DEF: u16 = 9;
+
+// Size of an entry of the line map.
+const LINE_MAP_ENTRY_SIZE: usize = 10;
+
+// Size of a row: tag, reserved, size.
+const DIR_ENTRY_SIZE: usize = 8;
+
+// What the payload of a row holds, by the row's tag.
+pub enum TableKind {
+    Lines,
+    Variables,
+    Functions,
+    Strings,
+    Files,
+    Enumerations,
+    Unknown,
+}
+
+// Where the tables in force stand in the section; one that no row has is empty and stands at 0.
+pub struct DebugTables {
+    pub lines: Table,
+    pub variables: Table,
+    pub functions: Table,
+    pub strings: Table,
+    pub files: Table,
+    pub enumerations: Table,
+}
+
+pub enum TablesAnswer {
+    Fault(DebugFault),
+    Tables(DebugTables),
+}
+
+// The payload of a row: the table that it is, and the place behind it.
+enum PayloadStep {
+    Fault(DebugFault),
+    Table(Table, usize),
+}
+
+// How many entries the tables in force have.
+pub struct DebugCounts {
+    pub lines: u16,
+    pub variables: u16,
+    pub functions: u16,
+    pub strings: u16,
+    pub files: u16,
+    pub enumerations: u16,
+}
+
+// None where the section does not read.
+pub enum MaybeDebug {
+    None,
+    Some(DebugCounts),
+}
+
+fn kind_of(tag: u16) -> TableKind
+    ensures { λ r. ⌜ kindIn r ≡ kindOf tag ⌝ }
+{
+    match tag {
+        TAG_LINE_MAP => TableKind::Lines,
+        TAG_VAR_NAME => TableKind::Variables,
+        TAG_FUNC_NAME => TableKind::Functions,
+        TAG_STRING_LAYOUT => TableKind::Strings,
+        TAG_SOURCE_FILE => TableKind::Files,
+        TAG_ENUM_DEF => TableKind::Enumerations,
+        _ => TableKind::Unknown,
+    }
+}
+
+fn is_listed(kind: TableKind) -> bool
+    ensures { λ r. ⌜ r ≡ isListed (kindIn kind) ⌝ }
+{
+    match kind {
+        TableKind::Unknown => false,
+        TableKind::Lines => true,
+        TableKind::Variables => true,
+        TableKind::Functions => true,
+        TableKind::Strings => true,
+        TableKind::Files => true,
+        TableKind::Enumerations => true,
+    }
+}
+
+// A walk over the `n` lines from `at` on, which all have one width.
+fn skip_lines(s: &[u8], at: usize, n: usize) -> DebugWalk
+    requires { ⌜ at ≤ length (now s) ⌝ }
+    ensures { λ r. ⌜ Goes (many n line) (now (s .entry)) at (wayOf r) ⌝ }
+{
+    if lines_fit(s, at, n) {
+        DebugWalk::At(at + LINE_MAP_ENTRY_SIZE * n)
+    } else {
+        DebugWalk::Fault(DebugFault::Short)
+    }
+}
+
+// A walk over the `n` entries of a table of that kind from `at` on.
+fn skip_entries(s: &[u8], base: usize, at: usize, kind: TableKind, n: usize) -> DebugWalk
+    requires { ⌜ (at ≤ length (now s)) × InFile base (now s) ⌝ }
+    ensures { λ r. ⌜ Goes (entriesOf (keepIn base (now (s .entry))) (kindIn kind) n) (now (s .entry)) at (wayOf r) ⌝ }
+{
+    match kind {
+        TableKind::Lines => skip_lines(s, at, n),
+        TableKind::Variables => skip_var_names(s, base, at, n),
+        TableKind::Functions => skip_func_names(s, base, at, n),
+        TableKind::Strings => skip_string_layouts(s, at, n),
+        TableKind::Files => skip_source_files(s, base, at, n),
+        TableKind::Enumerations => skip_enum_defs(s, base, at, n),
+        TableKind::Unknown => DebugWalk::At(at),
+    }
+}
+
+// The payload at `at`: a listed table is read by its own count, any other is skipped by its row's size.
+fn read_payload(s: &[u8], base: usize, at: usize, kind: TableKind, size: usize) -> PayloadStep
+    requires { ⌜ (at ≤ length (now s)) × InFile base (now s) ⌝ }
+    ensures { λ r. ⌜ PayloadReads (keepIn base (now (s .entry))) (kindIn kind) size (now (s .entry)) at r ⌝ }
+{
+    if is_listed(kind) {
+        if s.len() - at < 2 {
+            return PayloadStep::Fault(DebugFault::Short);
+        }
+        let first = at + 2;
+        let count = u16_at(s, at) as usize;
+        return match skip_entries(s, base, first, kind, count) {
+            DebugWalk::Fault(e) => PayloadStep::Fault(e),
+            DebugWalk::At(m) => PayloadStep::Table(Table { at: first, count }, m),
+        };
+    }
+    if s.len() - at < size {
+        return PayloadStep::Fault(DebugFault::Short);
+    }
+    PayloadStep::Table(Table { at: 0, count: 0 }, at + size)
+}
+
+// The tables with `t` in force as that of its kind; a later one replaces an earlier, even by an empty one.
+fn put(tables: DebugTables, kind: TableKind, t: Table) -> DebugTables
+    ensures { λ r. ⌜ r ≡ putAs (kindIn kind) t tables ⌝ }
+{
+    let mut u = tables;
+    match kind {
+        TableKind::Lines => {
+            u.lines = t;
+        }
+        TableKind::Variables => {
+            u.variables = t;
+        }
+        TableKind::Functions => {
+            u.functions = t;
+        }
+        TableKind::Strings => {
+            u.strings = t;
+        }
+        TableKind::Files => {
+            u.files = t;
+        }
+        TableKind::Enumerations => {
+            u.enumerations = t;
+        }
+        TableKind::Unknown => {}
+    }
+    u
+}
+
+fn no_tables() -> DebugTables
+    ensures { λ r. ⌜ r ≡ noStarts ⌝ }
+{
+    let none = Table { at: 0, count: 0 };
+    DebugTables {
+        lines: none,
+        variables: none,
+        functions: none,
+        strings: none,
+        files: none,
+        enumerations: none,
+    }
+}
+
+// The section's reader: why it does not read, or where its tables in force stand.
+pub fn read_tables(s: &[u8], base: usize) -> TablesAnswer
+    requires { ⌜ InFile base (now s) ⌝ }
+    ensures { λ r. ⌜ (tablesFrom r ≡ itemOf (debugStarts (keepIn base (now (s .entry))) (now (s .entry)))) × Small r ⌝ }
+{
+    if s.len() < 2 {
+        return TablesAnswer::Fault(DebugFault::Short);
+    }
+    let n = u16_at(s, 0) as usize;
+    let mut p = 2 + DIR_ENTRY_SIZE * n;
+    if s.len() < p {
+        return TablesAnswer::Fault(DebugFault::Short);
+    }
+    let mut tables = no_tables();
+    let mut i = 0;
+    while i < n {
+        let row = 2 + DIR_ENTRY_SIZE * i;
+        let kind = kind_of(u16_at(s, row));
+        match read_payload(s, base, p, kind, u32_at(s, row + 4) as usize) {
+            PayloadStep::Fault(e) => {
+                return TablesAnswer::Fault(e);
+            }
+            PayloadStep::Table(t, m) => {
+                tables = put(tables, kind, t);
+                p = m;
+                i += 1;
+            }
+        }
+    }
+    TablesAnswer::Tables(tables)
+}
+
+// Whether the section reads, and how many entries its tables have.
+pub fn read_from(s: &[u8]) -> MaybeDebug
+    ensures { λ r. ⌜ maybeDebug r ≡ debugCounts (debugOf (now (s .entry))) ⌝ }
+{
+    match read_tables(s, 0) {
+        TablesAnswer::Fault(_) => MaybeDebug::None,
+        TablesAnswer::Tables(t) => MaybeDebug::Some(DebugCounts {
+            lines: t.lines.count as u16,
+            variables: t.variables.count as u16,
+            functions: t.functions.count as u16,
+            strings: t.strings.count as u16,
+            files: t.files.count as u16,
+            enumerations: t.enumerations.count as u16,
+        }),
+    }
+}
+
+// The claims of `specs/Laws.antt` hold. There is no code: the contract makes the check prove them.
+pub fn laws_hold()
+    ensures { λ _. ⌜ Laws ⌝ }
+{}
