@@ -16,10 +16,9 @@ use Rattle.format.specs.Code as code
 use Rattle.format.specs.Debug.{line, tagOf, sizeOf, kindOf, tableOf, rowsOf, debugTables}
 use Rattle.format.specs.Lines.{sorted, lineFor}
 use Rattle.format.specs.Integrity.{maskedHeader, sectionIn, hashedIn, hashedString, contentFits, debugHashFits}
-use Rattle.format.specs.Load.{Loaded, load, readIn, hasTypes, typesFound, debugOf, debugFound}
+use Rattle.format.specs.Load.{load, readIn, hasTypes, typesFound, debugOf, debugFound}
 use Rattle.format.specs.Lookups.{readAt, debugIn}
 use Rattle.format.specs.RunSide.{placed, SameRunSide}
-use Rattle.format.specs.UnknownTables.{TablesAdded}
 use Rattle.format.specs.Examples.{pasteLimit, lineAt, lastLine}
 use Rattle.format.proofs.Examples.{inside, the-found, sections, first-half-speaks, types-premise-needed, empty-code-place-needed, second-half-speaks}
 use Rattle.reading.specs.Answer.{found}

@@ -1,6 +1,5 @@
 -- A file whose header is accepted: what `read_from` answers is its sections, each by its counts.
 use mathlib.Core.Path.{_≡_, refl, sym, _∙_}
-use mathlib.Core.Bool.{cond}
 use mathlib.Core.List.{List}
 use mathlib.Core.Option.{Option}
 use Prim.Native.Nat.{ℕ, _≤_, _<_}
@@ -37,7 +36,7 @@ alike : (h : Header) (debug : Option (Tables (List ℕ))) (x : Got TaskTable) (y
     → _≡_ {A = Got Container}
     ((x >>= λ t. y >>= λ u. z >>= λ cs. w >>= λ k. found (loaded h t u cs k debug)) >>= λ l. found (recordOf l))
     ((x >>= λ t. found (taskCounts t)) >>= λ t. (y >>= λ u. found (typeCounts u)) >>= λ u. (z >>= λ cs. found (length cs)) >>= λ n. (w >>= read) >>= λ k.
-      found (record { header = h; tasks = t; types = u; constants = n; debug = debugCounts debug }))
+    found (record { header = h; tasks = t; types = u; constants = n; debug = debugCounts debug }))
 alike h debug (refused d) y z w = refl
 alike h debug (found t) (refused d) z w = refl
 alike h debug (found t) (found u) (refused d) w = refl

@@ -4,14 +4,14 @@ use mathlib.Core.Bool.{Bool, true, false, _&&_, cond}
 use mathlib.Core.List.{List}
 use mathlib.Core.Option.{Option, none, some}
 use native.Mathlib.Omega.{arith}
-use Prim.Native.Nat.{ℕ, _+_, _≤_, _<_}
-use lib.Dec.{leb, ltb}
+use Prim.Native.Nat.{ℕ, _≤_}
+use lib.Dec.{ltb}
 use lib.ListN.{length}
 use borrow.Author.Tests.{le-leb, lt-ltb, le-ltb}
 use Rattle.reading.specs.Fault.{Fault}
 use Rattle.reading.specs.Answer.{Got, refused, found, _>>=_, _>>_, need, itemOf}
-use Rattle.format.specs.Faults.{tooLong, sectionSizeMismatch}
-use Rattle.format.specs.Parts.{limit, hashLimit, Place, cut, isInside, Inside}
+use Rattle.format.specs.Faults.{sectionSizeMismatch}
+use Rattle.format.specs.Parts.{limit, hashLimit, Place, cut, isInside}
 use Rattle.format.specs.Header.{Header, typesFlag}
 use Rattle.format.specs.Types.{TypeTables, typeTables}
 use Rattle.format.specs.Load.{hasTypes, typesFound, debugOf, debugHashRight, debugFound}

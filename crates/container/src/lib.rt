@@ -3,7 +3,7 @@ ghost use mathlib.Core.Path.{_≡_};
 ghost use Prim.Native.Nat.{_≤_};
 ghost use lib.ListN.{length};
 ghost use Rattle.format.specs.Parts.{limit};
-ghost use Rattle.format.specs.Load.{debugOf, debugFound};
+ghost use Rattle.format.specs.Load.{debugFound};
 ghost use Rattle.format.specs.Record.{debugCounts, readFrom};
 ghost use Rattle.base.specs.Digest.{digestBytes};
 ghost use Rattle.base.specs.Section.{placeIn, checkedFrom};
@@ -11,7 +11,7 @@ ghost use Rattle.blake3.specs.Blake3.{blake3};
 ghost use Rattle.header.specs.Answers.{headerIn};
 ghost use Rattle.task_table.specs.Answers.{countsFrom};
 ghost use Rattle.constant_pool.specs.Answers.{countFrom};
-ghost use Rattle.record.specs.Answers.{maybeDebug};
+ghost use Rattle.debug_tables.specs.Answers.{maybeDebug};
 ghost use Rattle.container.specs.Answers.{containerFrom, typesFrom};
 ghost use Rattle.container.specs.Sections.{Accepted, tasksAt, typesAt, typesOf, constantsAt, codeAt, debugIn};
 ghost use Rattle.container.specs.Independence.{SameRun, DebugAlike};
@@ -24,6 +24,7 @@ use base::section::PartAnswer;
 use base::section::Section;
 use base::section::section_part;
 use constant_pool::CountAnswer;
+use debug_tables::MaybeDebug;
 use header::FileHeader;
 use header::HeaderAnswer;
 use header::from_bytes;
@@ -31,8 +32,6 @@ use header::has_types;
 use integrity::check_content_hash;
 use integrity::debug_hash_matches;
 pub use record::Container;
-pub use record::DebugCounts;
-pub use record::MaybeDebug;
 pub use record::MaybeTypes;
 use task_table::TaskTableAnswer;
 use type_section::TypesAnswer;
@@ -120,18 +119,12 @@ fn types_of(file: &[u8], header: FileHeader) -> TypesRead
     TypesRead::Types(MaybeTypes::None)
 }
 
-fn debug_counts(s: &[u8]) -> MaybeDebug
-    ensures { λ r. ⌜ maybeDebug r ≡ debugCounts (debugOf (now (s .entry))) ⌝ }
-{
-    MaybeDebug::None
-}
-
 // A debug section, where its hash fits and it reads.
 fn debug_in(section: &[u8], debug_hash: Digest) -> MaybeDebug
     ensures { λ r. ⌜ maybeDebug r ≡ debugIn (digestBytes «debug_hash») (now (section .entry)) ⌝ }
 {
     if debug_hash_matches(debug_hash, section) {
-        return debug_counts(section);
+        return debug_tables::read_from(section);
     }
     MaybeDebug::None
 }
@@ -178,7 +171,11 @@ fn read_sections(file: &[u8], header: FileHeader) -> ContainerAnswer
         }
         CountAnswer::Count(n) => n,
     };
-    match code_at(file, header.sections.code_section, header.runtime.num_functions) {
+    match code_at(
+        file,
+        header.sections.code_section,
+        header.runtime.num_functions,
+    ) {
         Checked::Refused(e) => ContainerAnswer::Refused(e),
         Checked::Good => ContainerAnswer::Container(Container {
             header,

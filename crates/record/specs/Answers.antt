@@ -4,31 +4,14 @@ use Rattle.format.specs.Record as format
 use Rattle.header.specs.Answers.{headerIn}
 use Rattle.task_table.specs.Answers as tasks
 use Rattle.type_section.specs.Answers as types
+use Rattle.debug_tables.specs.Answers.{maybeDebug}
 use Rattle.record.specs.declared.MaybeTypes.{MaybeTypes}
 use Rattle.record.specs.declared.MaybeTypes.the-variants as maybe-types
-use Rattle.record.specs.declared.DebugCounts.{DebugCounts}
-use Rattle.record.specs.declared.MaybeDebug.{MaybeDebug}
-use Rattle.record.specs.declared.MaybeDebug.the-variants as maybe-debug
 use Rattle.record.specs.declared.Container.{Container}
 
 abbrev pub maybeTypes : MaybeTypes → Option format.TypeCounts
 maybeTypes maybe-types.None = none
 maybeTypes (maybe-types.Some c) = some (types.countsIn c)
-
-abbrev pub debugCountsIn : DebugCounts → format.DebugCounts
-debugCountsIn c =
-    record {
-      lines = c .lines;
-      variables = c .variables;
-      functions = c .functions;
-      strings = c .strings;
-      files = c .files;
-      enumerations = c .enumerations;
-    }
-
-abbrev pub maybeDebug : MaybeDebug → Option format.DebugCounts
-maybeDebug maybe-debug.None = none
-maybeDebug (maybe-debug.Some c) = some (debugCountsIn c)
 
 abbrev pub containerIn : Container → format.Container
 containerIn c =

@@ -24,6 +24,7 @@ use constant_pool::I64Answer;
 use constant_pool::U32Answer;
 use constant_pool::U64Answer;
 use constant_pool::WidthAnswer;
+use debug_tables::MaybeDebug;
 use header::FileHeader;
 use task_table::ProgramAnswer;
 use task_table::TaskAnswer;
@@ -39,22 +40,6 @@ use type_section::UserFbAnswer;
 pub enum MaybeTypes {
     None,
     Some(TypeCounts),
-}
-
-// How many entries the debug section's tables have.
-pub struct DebugCounts {
-    pub lines: u16,
-    pub variables: u16,
-    pub functions: u16,
-    pub strings: u16,
-    pub files: u16,
-    pub enumerations: u16,
-}
-
-// The debug section's counts, where there is one.
-pub enum MaybeDebug {
-    None,
-    Some(DebugCounts),
 }
 
 // A container: the header, which has every section's place and size and the function count, and the other counts.

@@ -5,7 +5,7 @@ use Rattle.container.proofs.debug_in.Statement.{statement}
 use Rattle.container.proofs.debug_in.Tie as tie
 
 returns : tie.Need-returns
-returns c = rw (sym (c .before .before .debug-hash-matches .ensures) ∙ c .before .if1 .taken) (c .debug-counts .ensures)
+returns c = rw (sym (c .before .before .debug-hash-matches .ensures) ∙ c .before .if1 .taken) (c .read-from .ensures)
 
 returns-2 : tie.Need-returns-2
 returns-2 c = rw (sym (c .before .debug-hash-matches .ensures) ∙ c .if1 .left)

@@ -1,7 +1,5 @@
 -- `container::read_from` meets its contract: length, header and content hash decide, and then the sections.
-use mathlib.Core.Path.{sym, _∙_}
 use denote.Ref.{now}
-use Rattle.header.specs.Answers.{headerIn}
 use Rattle.container.proofs.Loading.{too-long, header-refused, content-refused, are-accepted}
 use borrow.Author.Needs.{needs}
 use Rattle.container.proofs.read_from.Statement.{statement}

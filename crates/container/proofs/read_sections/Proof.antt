@@ -61,5 +61,6 @@ read-sections-spec =
     (λ c κs. search needs)
     (λ c. search needs)
     (λ c. search needs)
+    debug-of-requires
     returns-4
     returns-5)
