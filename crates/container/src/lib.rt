@@ -24,7 +24,8 @@ use base::section::PartAnswer;
 use base::section::Section;
 use base::section::section_part;
 use constant_pool::CountAnswer;
-use debug_tables::MaybeDebug;
+pub use debug_tables::DebugCounts;
+pub use debug_tables::MaybeDebug;
 use header::FileHeader;
 use header::HeaderAnswer;
 use header::from_bytes;
@@ -109,12 +110,12 @@ fn types_of(file: &[u8], header: FileHeader) -> TypesRead
     requires { ⌜ length (now file) ≤ limit ⌝ }
     ensures { λ r. ⌜ typesFrom r ≡ typesOf (now (file .entry)) (headerIn header) ⌝ }
 {
-    let section = header.sections.type_section;
-    if section.size == 0 {
+    let types = header.sections.type_section;
+    if types.size == 0 {
         return TypesRead::Types(MaybeTypes::None);
     }
     if has_types(header.flags) {
-        return types_at(file, section);
+        return types_at(file, types);
     }
     TypesRead::Types(MaybeTypes::None)
 }
@@ -134,11 +135,11 @@ fn debug_of(file: &[u8], header: FileHeader) -> MaybeDebug
     requires { ⌜ length (now file) ≤ limit ⌝ }
     ensures { λ r. ⌜ maybeDebug r ≡ debugCounts (debugFound blake3 (now (file .entry)) (headerIn header)) ⌝ }
 {
-    let section = header.sections.debug_section;
-    if section.size == 0 {
+    let debug = header.sections.debug_section;
+    if debug.size == 0 {
         return MaybeDebug::None;
     }
-    match section_part(file, section) {
+    match section_part(file, debug) {
         PartAnswer::Refused(_) => MaybeDebug::None,
         PartAnswer::Part(p) => {
             let offset = p.offset;
@@ -187,6 +188,7 @@ fn read_sections(file: &[u8], header: FileHeader) -> ContainerAnswer
     }
 }
 
+// A container from a file: length, header, content hash, then the sections. The first fault met decides.
 pub fn read_from(file: &[u8]) -> ContainerAnswer
     ensures { λ r. ⌜ containerFrom r ≡ readFrom blake3 (now (file .entry)) ⌝ }
 {

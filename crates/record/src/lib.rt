@@ -11,7 +11,7 @@ ghost use Rattle.type_section.specs.Answers.{fbTypeFrom, fieldFrom, arrayFrom, 
 ghost use Rattle.constant_pool.specs.Answers.{constFrom, ConstEnds, u32From, u64From, i32From, i64From, widthFrom};
 ghost use Rattle.code_section.specs.Answers.{funcFrom};
 ghost use Rattle.record.specs.Answers.{containerIn};
-ghost use Rattle.record.specs.Absent.{Absent};
+ghost use Rattle.record.specs.Absence.{absentFault};
 use base::error::ContainerError;
 use base::id_types::ConstantIndex;
 use base::id_types::FunctionId;
@@ -51,14 +51,14 @@ pub struct Container {
     pub debug: MaybeDebug,
 }
 
-// The refusal of every lookup in types that the record has not: 10, then 16.
-fn no_types(file: &[u8]) -> ContainerError
-    ensures { λ r. ⌜ Absent (now (file .entry)) (faultOf r) ⌝ }
+// The refusal of every lookup in what the record has not: 10, then `out`.
+fn absent(file: &[u8], out: ContainerError) -> ContainerError
+    ensures { λ r. ⌜ faultOf r ≡ absentFault (faultOf out) (now (file .entry)) ⌝ }
 {
     if file.len() > FILE_LIMIT {
         return ContainerError::TooLong;
     }
-    ContainerError::NoArray
+    out
 }
 
 impl Container {
@@ -82,7 +82,7 @@ impl Container {
     {
         let types = self.types;
         match types {
-            MaybeTypes::None => FbTypeAnswer::Refused(no_types(file)),
+            MaybeTypes::None => FbTypeAnswer::Refused(absent(file, ContainerError::NoArray)),
             MaybeTypes::Some(_) => {
                 type_section::fb_type(file, self.header.sections.type_section, index)
             }
@@ -95,7 +95,7 @@ impl Container {
     {
         let types = self.types;
         match types {
-            MaybeTypes::None => FieldAnswer::Refused(no_types(file)),
+            MaybeTypes::None => FieldAnswer::Refused(absent(file, ContainerError::NoArray)),
             MaybeTypes::Some(_) => {
                 type_section::field(file, self.header.sections.type_section, index, field)
             }
@@ -108,7 +108,7 @@ impl Container {
     {
         let types = self.types;
         match types {
-            MaybeTypes::None => ArrayAnswer::Refused(no_types(file)),
+            MaybeTypes::None => ArrayAnswer::Refused(absent(file, ContainerError::NoArray)),
             MaybeTypes::Some(_) => {
                 type_section::array(file, self.header.sections.type_section, index)
             }
@@ -121,7 +121,7 @@ impl Container {
     {
         let types = self.types;
         match types {
-            MaybeTypes::None => SizeAnswer::Refused(no_types(file)),
+            MaybeTypes::None => SizeAnswer::Refused(absent(file, ContainerError::NoArray)),
             MaybeTypes::Some(_) => {
                 type_section::array_size(file, self.header.sections.type_section, index)
             }
@@ -134,7 +134,7 @@ impl Container {
     {
         let types = self.types;
         match types {
-            MaybeTypes::None => UserFbAnswer::Refused(no_types(file)),
+            MaybeTypes::None => UserFbAnswer::Refused(absent(file, ContainerError::NoArray)),
             MaybeTypes::Some(_) => {
                 type_section::user_fb(file, self.header.sections.type_section, index)
             }
