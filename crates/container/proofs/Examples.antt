@@ -19,12 +19,12 @@ use Rattle.format.specs.Integrity.{maskedHeader, sectionIn, hashedIn, hashedStr
 use Rattle.format.specs.Load.{load, readIn, hasTypes, typesFound, debugOf, debugFound}
 use Rattle.format.specs.Lookups.{readAt, debugIn}
 use Rattle.format.specs.RunSide.{placed, SameRunSide}
-use Rattle.format.specs.Examples.{pasteLimit, lineAt, lastLine}
+use Rattle.format.specs.Examples.{tinyWith, pasteLimit, lineAt, lastLine}
 use Rattle.format.proofs.Examples.{inside, the-found, sections, first-half-speaks, types-premise-needed, empty-code-place-needed, second-half-speaks}
 use Rattle.reading.specs.Answer.{found}
 use lib.IntN.{pos}
 use Rattle.blake3.specs.Blake3.{blake3}
-use Rattle.container.specs.Examples.{contentDigest, linesDigest, linesMoreDigest, hashedMill, hashedMillMore, hashedStripped, HashedRun, HashedDebug, Examples}
+use Rattle.container.specs.Examples.{contentDigest, tinyDigest, linesDigest, linesMoreDigest, hashedMill, hashedMillMore, hashedStripped, HashedRun, HashedDebug, HashDecides, Examples}
 use Rattle.container.proofs.Digests.{Digests, digests}
 
 premises : SameRunSide hashedMill hashedStripped
@@ -53,6 +53,10 @@ module _ (hash : List ℕ → List ℕ) (d : Digests hash) where
   second-270 : pasteLimit hash hashedStripped ≡ found (pos 270)
   unfolding load headerOf runtimeOf directoryOf le bytes contentFits hashedString hashedIn maskedHeader readIn sectionIn isInside task.taskTable task.task task.program typesFound hasTypes types.typeTables types.fbType types.array types.userFb pool.constants pool.constant pool.keptOf code.codeOf code.function readAt debugFound
   second-270 = rw (d .of-content)
+
+  hash-decides : HashDecides hash
+  unfolding load headerOf runtimeOf directoryOf le bytes contentFits hashedString hashedIn maskedHeader readIn sectionIn isInside task.taskTable task.task task.program typesFound hasTypes types.typeTables types.fbType types.array types.userFb pool.constants pool.constant pool.keptOf code.codeOf code.function debugFound
+  hash-decides = record { own = (the-found (load (λ s. tinyDigest) (tinyWith tinyDigest 264)) tt .0, rw (d .of-tiny)); other = rw (d .of-tiny) }
 
   hashed-run : HashedRun hash
   hashed-run = record { checked = refl; premises = premises; first-answer = first-270; second-answer = second-270 }
@@ -93,6 +97,7 @@ examples =
     record {
       hashed-run = hashed-run blake3 digests;
       hashed-debug = hashed-debug blake3 digests;
+      hash-decides = hash-decides blake3 digests;
       first-half-speaks = first-half-speaks blake3;
       types-premise-needed = types-premise-needed blake3;
       empty-code-place-needed = empty-code-place-needed blake3;

@@ -5,12 +5,13 @@ use mathlib.Core.Bool.{false}
 use mathlib.Core.List.{List, [], _∷_, _++_}
 use lib.IntN.{pos}
 use lib.ListN.{length, replicate}
-use Rattle.reading.specs.Answer.{found}
+use Rattle.reading.specs.Answer.{refused, found}
+use Rattle.format.specs.Faults.{contentHashMismatch}
 use Rattle.format.specs.Integrity.{noHash}
 use Rattle.format.specs.Load.{Loaded, load}
 use Rattle.format.specs.RunSide.{SameRunSide}
 use Rattle.format.specs.UnknownTables.{TablesAdded}
-use Rattle.format.specs.Examples.{pair, header, tasks, types, constants, codeWith, lines, linesMore, pasteLimit, lineAt, lastLine, FirstHalfSpeaks, TypesPremiseNeeded, EmptyCodePlaceNeeded, SecondHalfSpeaks}
+use Rattle.format.specs.Examples.{pair, header, tasks, types, constants, codeWith, lines, linesMore, tinyWith, hashed, pasteLimit, lineAt, lastLine, FirstHalfSpeaks, TypesPremiseNeeded, EmptyCodePlaceNeeded, SecondHalfSpeaks}
 use Rattle.blake3.specs.Blake3.{blake3}
 
 -- M's content hash, and the hashes of its debug section and of the one with an unknown table
@@ -28,6 +29,12 @@ abbrev pub linesMoreDigest : List ℕ
 linesMoreDigest =
     0x25 ∷ 0x25 ∷ 0xF0 ∷ 0x91 ∷ 0x5C ∷ 0x00 ∷ 0x8E ∷ 0xAB ∷ 0x42 ∷ 0xC8 ∷ 0x91 ∷ 0x80 ∷ 0xA0 ∷ 0x84 ∷ 0x76 ∷ 0x18
     ∷ 0xDE ∷ 0xB0 ∷ 0x42 ∷ 0x6A ∷ 0x7D ∷ 0xB4 ∷ 0x9B ∷ 0x39 ∷ 0x9C ∷ 0xC4 ∷ 0x9E ∷ 0xBA ∷ 0x16 ∷ 0xA3 ∷ 0x5B ∷ 0xD4 ∷ []
+
+-- the content hash of format's tiny file
+abbrev pub tinyDigest : List ℕ
+tinyDigest =
+    0x5F ∷ 0xF0 ∷ 0x78 ∷ 0x4B ∷ 0xC5 ∷ 0x9E ∷ 0x5D ∷ 0x9B ∷ 0x7C ∷ 0x7A ∷ 0x28 ∷ 0x93 ∷ 0x3F ∷ 0x96 ∷ 0xA3 ∷ 0xF1
+    ∷ 0xA1 ∷ 0xF0 ∷ 0xBB ∷ 0x86 ∷ 0xFF ∷ 0xC5 ∷ 0xC6 ∷ 0x67 ∷ 0x24 ∷ 0x63 ∷ 0xD1 ∷ 0x18 ∷ 0xA4 ∷ 0x2C ∷ 0x8B ∷ 0x60 ∷ []
 
 -- M with its content hash, and a debug section with its hash
 abbrev pub millHashed : List ℕ → List ℕ → List ℕ
@@ -65,9 +72,15 @@ pub record HashedDebug (hash : List ℕ → List ℕ) : Type 0 where
   pub first-answer : lineAt hash hashedMill 0 3 ≡ found lastLine
   pub second-answer : lineAt hash hashedMillMore 0 3 ≡ found lastLine
 
+-- the tiny file with its own content hash loads, and with another, 32 ones, it is refused with 5
+pub record HashDecides (hash : List ℕ → List ℕ) : Type 0 where
+  pub own : (l : Loaded) × (load hash (tinyWith tinyDigest 264) ≡ found l)
+  pub other : load hash hashed ≡ refused contentHashMismatch
+
 pub record Examples : Type 0 where
   pub hashed-run : HashedRun blake3
   pub hashed-debug : HashedDebug blake3
+  pub hash-decides : HashDecides blake3
   pub first-half-speaks : FirstHalfSpeaks blake3
   pub types-premise-needed : TypesPremiseNeeded blake3
   pub empty-code-place-needed : EmptyCodePlaceNeeded blake3
