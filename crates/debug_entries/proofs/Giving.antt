@@ -16,7 +16,7 @@ use Rattle.reading.specs.declared.Table.{Table}
 use Rattle.reading.proofs.Reading.{both, bytes-length}
 use Rattle.reading.proofs.Width.{fixed-bytes, fixed-width}
 use Rattle.reading.proofs.Local.{Local, local-check, local-bytes, local-number}
-use Rattle.reading.proofs.Left.{LeftOf, left-at, stays-local, walk-is-table}
+use Rattle.reading.proofs.Left.{LeftOf, left-at, Stays, stays-local, walk-is-table}
 use Rattle.format.specs.Faults.{noEntry}
 use Rattle.format.specs.Debug.{text, name, path, variable, functionName, sourceFile, enumeration}
 use Rattle.format.proofs.Readers.{local-stringLayout}
@@ -142,6 +142,13 @@ module _ (whole : List ℕ) where
           found-is = picked-in;
           step-is = step-in;
         }
+
+-- what these leave of the section is left of it
+pub stays-name : (base : ℕ) (s : List ℕ) → Stays s (name (keepIn base s))
+stays-name base s = record { leaves = λ x a t w e. gives-name s base .leaves x a t w e .1 }
+
+pub stays-enumeration : (base : ℕ) (s : List ℕ) → Stays s (enumeration (keepIn base s))
+stays-enumeration base s = record { leaves = λ x a t w e. gives-enumeration s base .leaves x a t w e .1 }
 
 pub laws : Laws
 laws =

@@ -1,0 +1,71 @@
+-- What the code's answers mean.
+use Prim.Native.Nat.{ℕ}
+use mathlib.Core.List.{List}
+use mathlib.Core.Path.{_≡_}
+use Rattle.reading.specs.Answer.{Got, refused, found}
+use Rattle.format.specs.Parts.{Place, Inside}
+use Rattle.format.specs.Debug.{Variable, FunctionName, StringLayout, SourceFile}
+use Rattle.format.specs.Lookups.{EnumerationHead}
+use Rattle.base.specs.Error.{faultOf}
+use Rattle.base.specs.Section.{partIn}
+use Rattle.debug_entries.specs.Answers.{varNameIn, funcNameIn, stringLayoutIn, sourceFileIn}
+use Rattle.debug_entries.specs.declared.enum_defs.EnumDefEntry.{EnumDefEntry}
+use Rattle.debug_tables.specs.declared.DebugTables.{DebugTables}
+use Rattle.debug_section.specs.Lookups.{valuesAt}
+use Rattle.debug_section.specs.declared.StartsAnswer.{StartsAnswer}
+use Rattle.debug_section.specs.declared.StartsAnswer.the-variants as starts
+use Rattle.debug_section.specs.declared.VariableAnswer.{VariableAnswer}
+use Rattle.debug_section.specs.declared.VariableAnswer.the-variants as variableAnswer
+use Rattle.debug_section.specs.declared.FunctionNameAnswer.{FunctionNameAnswer}
+use Rattle.debug_section.specs.declared.FunctionNameAnswer.the-variants as functionNameAnswer
+use Rattle.debug_section.specs.declared.LayoutAnswer.{LayoutAnswer}
+use Rattle.debug_section.specs.declared.LayoutAnswer.the-variants as layoutAnswer
+use Rattle.debug_section.specs.declared.SourceAnswer.{SourceAnswer}
+use Rattle.debug_section.specs.declared.SourceAnswer.the-variants as sourceAnswer
+use Rattle.debug_section.specs.declared.EnumerationAnswer.{EnumerationAnswer}
+use Rattle.debug_section.specs.declared.EnumerationAnswer.the-variants as enumerationAnswer
+use Rattle.debug_section.specs.declared.ValueAnswer.{ValueAnswer}
+use Rattle.debug_section.specs.declared.ValueAnswer.the-variants as valueAnswer
+
+abbrev pub startsFrom : StartsAnswer → Got DebugTables
+startsFrom (starts.Refused e) = refused (faultOf e)
+startsFrom (starts.Starts t) = found t
+
+-- where they are told, the section lies in the file
+abbrev pub Lies : List ℕ → Place → StartsAnswer → Type 0
+Lies f p (starts.Refused e) = Unit {0}
+Lies f p (starts.Starts t) = Inside f p
+
+abbrev pub variableFrom : VariableAnswer → Got (Variable Place)
+variableFrom (variableAnswer.Refused e) = refused (faultOf e)
+variableFrom (variableAnswer.Entry x) = found (varNameIn x)
+
+abbrev pub functionNameFrom : FunctionNameAnswer → Got (FunctionName Place)
+functionNameFrom (functionNameAnswer.Refused e) = refused (faultOf e)
+functionNameFrom (functionNameAnswer.Entry x) = found (funcNameIn x)
+
+abbrev pub layoutFrom : LayoutAnswer → Got StringLayout
+layoutFrom (layoutAnswer.Refused e) = refused (faultOf e)
+layoutFrom (layoutAnswer.Entry x) = found (stringLayoutIn x)
+
+abbrev pub sourceFrom : SourceAnswer → Got (SourceFile Place)
+sourceFrom (sourceAnswer.Refused e) = refused (faultOf e)
+sourceFrom (sourceAnswer.Entry x) = found (sourceFileIn x)
+
+-- Enumerations and their values
+
+abbrev pub headIn : EnumDefEntry → EnumerationHead Place
+headIn e = record { named = partIn (e .«type_name»); valueCount = e .values .count }
+
+abbrev pub enumerationFrom : EnumerationAnswer → Got (EnumerationHead Place)
+enumerationFrom (enumerationAnswer.Refused e) = refused (faultOf e)
+enumerationFrom (enumerationAnswer.Entry x) = found (headIn x)
+
+-- the table of values of one that is answered stands behind its name and count
+abbrev pub ValuesPlaced : Place → EnumerationAnswer → Type 0
+ValuesPlaced p (enumerationAnswer.Refused e) = Unit {0}
+ValuesPlaced p (enumerationAnswer.Entry x) = x .values ≡ valuesAt p (headIn x)
+
+abbrev pub valueFrom : ValueAnswer → Got Place
+valueFrom (valueAnswer.Refused e) = refused (faultOf e)
+valueFrom (valueAnswer.Name x) = found (partIn x)

@@ -1,0 +1,276 @@
+// The debug section of a file: where its tables in force stand, and lookups in them. A lookup reads the section again and trusts no count: 10 over
+// the file's limit, 15 where the section does not lie in the file behind the header or does not read, then the lookup's own refusal.
+use base::error::ContainerError;
+use base::id_types::FunctionId;
+use base::section::FILE_LIMIT;
+use base::section::Part;
+use base::section::PartAnswer;
+use base::section::Section;
+use base::section::section_part;
+use debug_entries::enum_defs;
+use debug_entries::enum_defs::EnumDefAnswer;
+use debug_entries::enum_defs::EnumDefEntry;
+use debug_entries::func_names;
+use debug_entries::func_names::FuncNameAnswer;
+use debug_entries::func_names::FuncNameEntry;
+use debug_entries::source_files;
+use debug_entries::source_files::SourceFileAnswer;
+use debug_entries::source_files::SourceFileEntry;
+use debug_entries::string_layouts;
+use debug_entries::string_layouts::StringLayoutAnswer;
+use debug_entries::string_layouts::StringLayoutEntry;
+use debug_entries::var_names;
+use debug_entries::var_names::VarNameAnswer;
+use debug_entries::var_names::VarNameEntry;
+use debug_tables::DebugTables;
+use debug_tables::TablesAnswer;
+use debug_tables::read_tables;
+use debug_text::NameAnswer;
+use line_map::LineAnswer;
+ghost use mathlib.Core.Path.{_≡_};
+ghost use Rattle.base.specs.Section.{placeIn, partFrom, PartWithin};
+ghost use Rattle.line_map.specs.Answers.{lineFrom};
+ghost use Rattle.debug_section.specs.Lookups.{debugPart, startsAt, answersAt};
+ghost use Rattle.debug_section.specs.Answers.{startsFrom, Lies, variableFrom, functionNameFrom, layoutFrom, sourceFrom, enumerationFrom, ValuesPlaced, valueFrom};
+
+// Where the tables in force stand; walks over them start there.
+pub enum StartsAnswer {
+    Refused(ContainerError),
+    Starts(DebugTables),
+}
+
+pub enum VariableAnswer {
+    Refused(ContainerError),
+    Entry(VarNameEntry),
+}
+
+pub enum FunctionNameAnswer {
+    Refused(ContainerError),
+    Entry(FuncNameEntry),
+}
+
+pub enum LayoutAnswer {
+    Refused(ContainerError),
+    Entry(StringLayoutEntry),
+}
+
+pub enum SourceAnswer {
+    Refused(ContainerError),
+    Entry(SourceFileEntry),
+}
+
+pub enum EnumerationAnswer {
+    Refused(ContainerError),
+    Entry(EnumDefEntry),
+}
+
+pub enum ValueAnswer {
+    Refused(ContainerError),
+    Name(Part),
+}
+
+// The part of the file that the section is.
+pub fn debug_part(file: &[u8], section: Section) -> PartAnswer
+    ensures { λ r. ⌜ (partFrom r ≡ debugPart (now (file .entry)) (placeIn section)) × PartWithin (now (file .entry)) r ⌝ }
+{
+    if file.len() > FILE_LIMIT {
+        return PartAnswer::Refused(ContainerError::TooLong);
+    }
+    match section_part(file, section) {
+        PartAnswer::Refused(_) => PartAnswer::Refused(ContainerError::NoDebug),
+        PartAnswer::Part(p) => PartAnswer::Part(p),
+    }
+}
+
+// The tables in force.
+pub fn tables(file: &[u8], section: Section) -> StartsAnswer
+    ensures { λ r. ⌜ (startsFrom r ≡ startsAt (now (file .entry)) (placeIn section)) × Lies (now (file .entry)) (placeIn section) r ⌝ }
+{
+    match debug_part(file, section) {
+        PartAnswer::Refused(e) => StartsAnswer::Refused(e),
+        PartAnswer::Part(p) => {
+            let start = p.offset;
+            let end = start + p.size;
+            match read_tables(&file[start..end], start) {
+                TablesAnswer::Fault(_) => StartsAnswer::Refused(ContainerError::NoDebug),
+                TablesAnswer::Tables(t) => StartsAnswer::Starts(t),
+            }
+        }
+    }
+}
+
+// The source location of a function's bytecode offset: 14 where the lines are not sorted, 13 where there is none.
+pub fn lookup_source_location(
+    file: &[u8],
+    section: Section,
+    function_id: FunctionId,
+    bytecode_offset: u16,
+) -> LineAnswer
+    ensures { λ r. ⌜ lineFrom r ≡ answersAt (now (file .entry)) (placeIn section) .sourceLine («function_id» .0) «bytecode_offset» ⌝ }
+{
+    match tables(file, section) {
+        StartsAnswer::Refused(e) => LineAnswer::Refused(e),
+        StartsAnswer::Starts(t) => {
+            let start = section.offset as usize;
+            let end = start + section.size as usize;
+            let at = t.lines.at;
+            let count = t.lines.count;
+            line_map::lookup_source_location(
+                &file[start..end],
+                at,
+                count,
+                function_id,
+                bytecode_offset,
+            )
+        }
+    }
+}
+
+// An entry of the line map.
+pub fn line(file: &[u8], section: Section, index: u16) -> LineAnswer
+    ensures { λ r. ⌜ lineFrom r ≡ answersAt (now (file .entry)) (placeIn section) .line index ⌝ }
+{
+    match tables(file, section) {
+        StartsAnswer::Refused(e) => LineAnswer::Refused(e),
+        StartsAnswer::Starts(t) => {
+            let start = section.offset as usize;
+            let end = start + section.size as usize;
+            let at = t.lines.at;
+            let count = t.lines.count;
+            line_map::line(&file[start..end], at, count, index as usize)
+        }
+    }
+}
+
+// A variable: its index, function, section, type, name and type name.
+pub fn variable(file: &[u8], section: Section, index: u16) -> VariableAnswer
+    ensures { λ r. ⌜ variableFrom r ≡ answersAt (now (file .entry)) (placeIn section) .variable index ⌝ }
+{
+    match tables(file, section) {
+        StartsAnswer::Refused(e) => VariableAnswer::Refused(e),
+        StartsAnswer::Starts(t) => {
+            let start = section.offset as usize;
+            let end = start + section.size as usize;
+            let at = t.variables.at;
+            let count = t.variables.count;
+            match var_names::find_var_name(&file[start..end], start, at, count, index as usize) {
+                VarNameAnswer::Fault(_) => VariableAnswer::Refused(ContainerError::NoDebug),
+                VarNameAnswer::NoEntry => VariableAnswer::Refused(ContainerError::NoEntry),
+                VarNameAnswer::Entry(x) => VariableAnswer::Entry(x),
+            }
+        }
+    }
+}
+
+// A function's id and name.
+pub fn function_name(file: &[u8], section: Section, index: u16) -> FunctionNameAnswer
+    ensures { λ r. ⌜ functionNameFrom r ≡ answersAt (now (file .entry)) (placeIn section) .functionName index ⌝ }
+{
+    match tables(file, section) {
+        StartsAnswer::Refused(e) => FunctionNameAnswer::Refused(e),
+        StartsAnswer::Starts(t) => {
+            let start = section.offset as usize;
+            let end = start + section.size as usize;
+            let at = t.functions.at;
+            let count = t.functions.count;
+            match func_names::find_func_name(&file[start..end], start, at, count, index as usize) {
+                FuncNameAnswer::Fault(_) => FunctionNameAnswer::Refused(ContainerError::NoDebug),
+                FuncNameAnswer::NoEntry => FunctionNameAnswer::Refused(ContainerError::NoEntry),
+                FuncNameAnswer::Entry(x) => FunctionNameAnswer::Entry(x),
+            }
+        }
+    }
+}
+
+// Where a string variable lies, and its length.
+pub fn string_layout(file: &[u8], section: Section, index: u16) -> LayoutAnswer
+    ensures { λ r. ⌜ layoutFrom r ≡ answersAt (now (file .entry)) (placeIn section) .stringLayout index ⌝ }
+{
+    match tables(file, section) {
+        StartsAnswer::Refused(e) => LayoutAnswer::Refused(e),
+        StartsAnswer::Starts(t) => {
+            let start = section.offset as usize;
+            let end = start + section.size as usize;
+            let at = t.strings.at;
+            let count = t.strings.count;
+            match string_layouts::find_string_layout(&file[start..end], at, count, index as usize) {
+                StringLayoutAnswer::Fault(_) => LayoutAnswer::Refused(ContainerError::NoDebug),
+                StringLayoutAnswer::NoEntry => LayoutAnswer::Refused(ContainerError::NoEntry),
+                StringLayoutAnswer::Entry(x) => LayoutAnswer::Entry(x),
+            }
+        }
+    }
+}
+
+// A source file's path and hash.
+pub fn source_file(file: &[u8], section: Section, index: u16) -> SourceAnswer
+    ensures { λ r. ⌜ sourceFrom r ≡ answersAt (now (file .entry)) (placeIn section) .sourceFile index ⌝ }
+{
+    match tables(file, section) {
+        StartsAnswer::Refused(e) => SourceAnswer::Refused(e),
+        StartsAnswer::Starts(t) => {
+            let start = section.offset as usize;
+            let end = start + section.size as usize;
+            let at = t.files.at;
+            let count = t.files.count;
+            match source_files::find_source_file(
+                &file[start..end],
+                start,
+                at,
+                count,
+                index as usize,
+            ) {
+                SourceFileAnswer::Fault(_) => SourceAnswer::Refused(ContainerError::NoDebug),
+                SourceFileAnswer::NoEntry => SourceAnswer::Refused(ContainerError::NoEntry),
+                SourceFileAnswer::Entry(x) => SourceAnswer::Entry(x),
+            }
+        }
+    }
+}
+
+// An enumeration: its name, and where the names of its values stand in the section.
+pub fn enumeration(file: &[u8], section: Section, index: u16) -> EnumerationAnswer
+    ensures { λ r. ⌜ (enumerationFrom r ≡ answersAt (now (file .entry)) (placeIn section) .enumeration index) × ValuesPlaced (placeIn section) r ⌝ }
+{
+    match tables(file, section) {
+        StartsAnswer::Refused(e) => EnumerationAnswer::Refused(e),
+        StartsAnswer::Starts(t) => {
+            let start = section.offset as usize;
+            let end = start + section.size as usize;
+            let at = t.enumerations.at;
+            let count = t.enumerations.count;
+            match enum_defs::find_enum_def(&file[start..end], start, at, count, index as usize) {
+                EnumDefAnswer::Fault(_) => EnumerationAnswer::Refused(ContainerError::NoDebug),
+                EnumDefAnswer::NoEntry => EnumerationAnswer::Refused(ContainerError::NoEntry),
+                EnumDefAnswer::Entry(x) => EnumerationAnswer::Entry(x),
+            }
+        }
+    }
+}
+
+// The name of a value of an enumeration.
+pub fn enumeration_value(file: &[u8], section: Section, index: u16, value: u16) -> ValueAnswer
+    ensures { λ r. ⌜ valueFrom r ≡ answersAt (now (file .entry)) (placeIn section) .enumerationValue index value ⌝ }
+{
+    match tables(file, section) {
+        StartsAnswer::Refused(e) => ValueAnswer::Refused(e),
+        StartsAnswer::Starts(t) => {
+            let start = section.offset as usize;
+            let end = start + section.size as usize;
+            let at = t.enumerations.at;
+            let count = t.enumerations.count;
+            match enum_defs::find_enum_value(
+                &file[start..end],
+                start,
+                at,
+                count,
+                index as usize,
+                value as usize,
+            ) {
+                NameAnswer::Fault(_) => ValueAnswer::Refused(ContainerError::NoDebug),
+                NameAnswer::NoEntry => ValueAnswer::Refused(ContainerError::NoEntry),
+                NameAnswer::Name(x) => ValueAnswer::Name(x),
+            }
+        }
+    }
+}

@@ -1,0 +1,36 @@
+-- Walks over the tables in force of a section that reads: the steps of each, driven from where the table starts, give the table.
+use Prim.Native.Nat.{ℕ, zero, suc}
+use mathlib.Core.List.{List, [], map}
+use mathlib.Core.Path.{_≡_}
+use Rattle.reading.specs.Answer.{Got, found, indexed}
+use Rattle.reading.specs.Places.{Next, onNext}
+use Rattle.reading.specs.declared.Table.{Table}
+use Rattle.format.specs.Faults.{noEntry}
+use Rattle.format.specs.Parts.{Place, byPlace}
+use Rattle.format.specs.Debug.{line, name, variable, functionName, stringLayout, sourceFile, Enumeration, Tables}
+use Rattle.debug_tables.specs.declared.DebugTables.{DebugTables}
+use Rattle.debug_section.specs.Lookups.{debugAt, startsAt}
+use Rattle.debug_walks.specs.Steps.{stepAt, entryOf, enumerationStep}
+
+-- the entries that at most `n` steps give, one behind the other
+abbrev pub driven : {A : Type 0} → (Table → Next A) → ℕ → Table → Got (List A)
+driven step zero t = found []
+driven step (suc n) t = onNext (step t) (driven step n)
+
+-- a table's start, and that as many steps as it has entries give them
+abbrev pub Gives : {A : Type 0} → (Table → Next A) → Table → List A → Type 0
+Gives step t xs = driven step (t .count) t ≡ found xs
+
+pub record Walks (f : List ℕ) (p : Place) (t : Tables Place) : Type 0 where
+  pub starts : DebugTables
+  pub started : startsAt f p ≡ found starts
+  pub lines : Gives (stepAt f p line) (starts .lines) (t .lines)
+  pub variables : Gives (stepAt f p (variable (byPlace p))) (starts .variables) (t .variables)
+  pub functions : Gives (stepAt f p (functionName (byPlace p))) (starts .functions) (t .functions)
+  pub strings : Gives (stepAt f p stringLayout) (starts .strings) (t .strings)
+  pub files : Gives (stepAt f p (sourceFile (byPlace p))) (starts .files) (t .files)
+  pub enumerations : Gives (enumerationStep f p) (starts .enumerations) (map (entryOf p) (t .enumerations))
+  pub values : (i : ℕ) (e : Enumeration Place) → indexed noEntry (t .enumerations) i ≡ found e → Gives (stepAt f p (name (byPlace p))) (entryOf p e .values) (e .values)
+
+pub record Laws : Type 0 where
+  pub walks : (f : List ℕ) (p : Place) (t : Tables Place) → debugAt f p ≡ found t → Walks f p t

@@ -1,0 +1,42 @@
+-- One step of a walk over a table of the debug section, over any file, any place `p` of the section and any table.
+use Prim.Native.Nat.{ℕ}
+use mathlib.Core.List.{List}
+use Rattle.reading.specs.Reader.{Reader}
+use Rattle.reading.specs.Answer.{Got, refused, found}
+use Rattle.reading.specs.Places.{Next, ends, faulty, entry, stepOf}
+use Rattle.reading.specs.declared.Table.{Table}
+use Rattle.format.specs.Faults.{noDebug}
+use Rattle.format.specs.Parts.{Place, cut, byPlace}
+use Rattle.format.specs.Debug.{Enumeration, enumeration}
+use Rattle.format.specs.Lookups.{EnumerationHead}
+use Rattle.debug_section.specs.Lookups.{debugPart, valuesAt, headOf}
+
+-- an entry that does not read gives 15
+abbrev pub orNone : {A : Type 0} → Next A → Next A
+orNone ends = ends
+orNone (faulty e) = faulty noDebug
+orNone (entry a t) = entry a t
+
+abbrev pub stepIn : {A : Type 0} → List ℕ → Got Place → Reader A → Table → Next A
+stepIn f (refused e) r t = faulty e
+stepIn f (found p) r t = orNone (stepOf r (cut f p) t)
+
+abbrev pub stepAt : {A : Type 0} → List ℕ → Place → Reader A → Table → Next A
+stepAt f p r t = stepIn f (debugPart f p) r t
+
+-- Enumerations: a step answers the head, and the table of the values' names
+
+pub record EnumerationEntry : Type 0 where
+  pub head : EnumerationHead Place
+  pub values : Table
+
+abbrev pub entryOf : Place → Enumeration Place → EnumerationEntry
+entryOf p e = record { head = headOf e; values = valuesAt p (headOf e) }
+
+abbrev pub onEntry : {A B : Type 0} → (A → B) → Next A → Next B
+onEntry m ends = ends
+onEntry m (faulty e) = faulty e
+onEntry m (entry a t) = entry (m a) t
+
+abbrev pub enumerationStep : List ℕ → Place → Table → Next EnumerationEntry
+enumerationStep f p t = onEntry (entryOf p) (stepAt f p (enumeration (byPlace p)) t)

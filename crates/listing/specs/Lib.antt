@@ -1,0 +1,4 @@
+pub mod Lines
+pub mod Answers
+pub mod Listing
+pub mod Laws

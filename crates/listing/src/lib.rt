@@ -1,0 +1,90 @@
+// The lines of the lister that stand for no entry of a table: of the container, of its debug section, of its end, of a refusal. The
+// whole listing of a file is a definition, in `specs/Listing.antt`.
+ghost use Prim.Native.Nat.{_+_, _≤_};
+ghost use mathlib.Core.Option.{none, some};
+ghost use lib.ListN.{length};
+ghost use Rattle.base.specs.Error.{faultOf};
+ghost use Rattle.text.specs.Text.{Wrote};
+ghost use Rattle.header.specs.Answers.{headerIn};
+ghost use Rattle.entry_lines.specs.Lines.{lineRoom};
+ghost use Rattle.listing.specs.Lines.{containerLine, debugLine, endLine, refusedLine};
+ghost use Rattle.listing.specs.Answers.{countsIn};
+ghost use Rattle.listing.specs.Laws.{AllLaws};
+use base::error::ContainerError;
+use header::FileHeader;
+use text::put_bytes;
+use text::put_dash_line;
+use text::put_line;
+
+// How many entries each table of the debug section has.
+pub struct DebugCounts {
+    pub lines: u16,
+    pub variables: u16,
+    pub functions: u16,
+    pub strings: u16,
+    pub files: u16,
+    pub enumerations: u16,
+}
+
+pub fn put_container(out: &mut [u8], at: usize, h: FileHeader) -> usize
+    requires { ⌜ at + lineRoom ≤ length (now out) ⌝ }
+    ensures { λ r. ⌜ Wrote (now (out .entry)) at (containerLine (headerIn h)) (now (out .exit)) r ⌝ }
+{
+    let ns = [h.format_version as u64, h.profile as u64, h.flags as u64];
+    put_line(out, at, b"container", &ns)
+}
+
+pub fn put_debug(out: &mut [u8], at: usize, c: DebugCounts) -> usize
+    requires { ⌜ at + lineRoom ≤ length (now out) ⌝ }
+    ensures { λ r. ⌜ Wrote (now (out .entry)) at (debugLine (some (countsIn c))) (now (out .exit)) r ⌝ }
+{
+    let ns = [
+        c.lines as u64,
+        c.variables as u64,
+        c.functions as u64,
+        c.strings as u64,
+        c.files as u64,
+        c.enumerations as u64,
+    ];
+    put_line(out, at, b"debug", &ns)
+}
+
+pub fn put_no_debug(out: &mut [u8], at: usize) -> usize
+    requires { ⌜ at + lineRoom ≤ length (now out) ⌝ }
+    ensures { λ r. ⌜ Wrote (now (out .entry)) at (debugLine none) (now (out .exit)) r ⌝ }
+{
+    put_bytes(out, at, b"debug none\n")
+}
+
+pub fn put_end(out: &mut [u8], at: usize) -> usize
+    requires { ⌜ at + lineRoom ≤ length (now out) ⌝ }
+    ensures { λ r. ⌜ Wrote (now (out .entry)) at endLine (now (out .exit)) r ⌝ }
+{
+    put_bytes(out, at, b"end\n")
+}
+
+// A refusal: its number, and its values, or a dash if it has none.
+pub fn put_refused(out: &mut [u8], at: usize, e: ContainerError) -> usize
+    requires { ⌜ at + lineRoom ≤ length (now out) ⌝ }
+    ensures { λ r. ⌜ Wrote (now (out .entry)) at (refusedLine (faultOf e)) (now (out .exit)) r ⌝ }
+{
+    let number = e.number() as u64;
+    let values = e.values();
+    let first = values.first as u64;
+    let second = values.second as u64;
+    if values.count == 0 {
+        let ns = [number];
+        return put_dash_line(out, at, b"refused", &ns);
+    }
+    if values.count == 1 {
+        let ns = [number, first];
+        return put_line(out, at, b"refused", &ns);
+    }
+    let ns = [number, first, second];
+    put_line(out, at, b"refused", &ns)
+}
+
+// The claims of `specs/Laws.antt` hold. There is no code: the contract makes the check prove them.
+pub fn laws_hold()
+    ensures { λ _. ⌜ AllLaws ⌝ }
+{}

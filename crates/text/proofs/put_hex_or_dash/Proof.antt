@@ -1,0 +1,22 @@
+-- `text::put_hex_or_dash` meets its contract.
+use borrow.Author.Needs.{needs}
+use Rattle.text.proofs.Putting.{hex-none, hex-some}
+use Rattle.text.proofs.put_hex_or_dash.Statement.{statement}
+use Rattle.text.proofs.put_hex_or_dash.Tie as tie
+
+returns : tie.Need-returns
+returns c = rw (hex-none _ (c .before .before .before .before .if1 .taken)) (c .before .before .put-byte .ensures)
+
+returns-2 : tie.Need-returns-2
+returns-2 c = rw (hex-some _ (c .before .before .before .before .if1 .left)) (c .before .before .put-hex .ensures)
+
+pub put-hex-or-dash-spec : {M : Type 1} → statement M
+put-hex-or-dash-spec =
+    tie.close
+    (tie.spec
+    (λ c κs. search needs)
+    (λ c. search needs)
+    returns
+    (λ c κs. search needs)
+    (λ c. search needs)
+    returns-2)
