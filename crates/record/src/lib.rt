@@ -1,15 +1,17 @@
 // The record that reading a file yields, and the lookups over it. Nothing vouches for a record: anybody can make one up, and a lookup reads its
 // section again, at the record's place, size and function count.
 ghost use mathlib.Core.Path.{_≡_};
-ghost use Rattle.format.specs.Lookups.{runAnswers};
+ghost use Rattle.format.specs.Lookups.{runAnswers, debugAnswers};
 ghost use Rattle.base.specs.Error.{faultOf};
-ghost use Rattle.base.specs.Section.{partFrom, PartWithin, bytesOr};
+ghost use Rattle.base.specs.Section.{placeIn, partFrom, PartWithin, bytesOr};
 ghost use lib.ListN.{length};
 ghost use Rattle.task_table.specs.Answers.{taskFrom, programFrom};
 ghost use Rattle.type_entries.specs.Answers.{sizeFrom};
 ghost use Rattle.type_section.specs.Answers.{fbTypeFrom, fieldFrom, arrayFrom, userFbFrom};
 ghost use Rattle.constant_pool.specs.Answers.{constFrom, ConstEnds, u32From, u64From, i32From, i64From, widthFrom};
 ghost use Rattle.code_section.specs.Answers.{funcFrom};
+ghost use Rattle.line_map.specs.Answers.{lineFrom};
+ghost use Rattle.debug_section.specs.Answers.{variableFrom, functionNameFrom, layoutFrom, sourceFrom, enumerationFrom, ValuesPlaced, valueFrom};
 ghost use Rattle.record.specs.Answers.{containerIn};
 ghost use Rattle.record.specs.Absence.{absentFault};
 use base::error::ContainerError;
@@ -24,8 +26,15 @@ use constant_pool::I64Answer;
 use constant_pool::U32Answer;
 use constant_pool::U64Answer;
 use constant_pool::WidthAnswer;
+use debug_section::EnumerationAnswer;
+use debug_section::FunctionNameAnswer;
+use debug_section::LayoutAnswer;
+use debug_section::SourceAnswer;
+use debug_section::ValueAnswer;
+use debug_section::VariableAnswer;
 use debug_tables::MaybeDebug;
 use header::FileHeader;
+use line_map::LineAnswer;
 use task_table::ProgramAnswer;
 use task_table::TaskAnswer;
 use task_table::TaskCounts;
@@ -241,5 +250,124 @@ impl Container {
             self.header.runtime.num_functions,
             function_id,
         )
+    }
+
+    // The source location of a place in a function's bytecode.
+    pub fn lookup_source_location(
+        self,
+        file: &[u8],
+        function_id: FunctionId,
+        bytecode_offset: u16,
+    ) -> LineAnswer
+        ensures { λ r. ⌜ lineFrom r ≡ debugAnswers (now (file .entry)) (containerIn self) .sourceLine («function_id» .0) «bytecode_offset» ⌝ }
+    {
+        let debug = self.debug;
+        match debug {
+            MaybeDebug::None => LineAnswer::Refused(absent(file, ContainerError::NoDebug)),
+            MaybeDebug::Some(_) => {
+                debug_section::lookup_source_location(
+                    file,
+                    self.header.sections.debug_section,
+                    function_id,
+                    bytecode_offset,
+                )
+            }
+        }
+    }
+
+    // An entry of the line map.
+    pub fn line(self, file: &[u8], index: u16) -> LineAnswer
+        ensures { λ r. ⌜ lineFrom r ≡ debugAnswers (now (file .entry)) (containerIn self) .line index ⌝ }
+    {
+        let debug = self.debug;
+        match debug {
+            MaybeDebug::None => LineAnswer::Refused(absent(file, ContainerError::NoDebug)),
+            MaybeDebug::Some(_) => {
+                debug_section::line(file, self.header.sections.debug_section, index)
+            }
+        }
+    }
+
+    // A variable's names.
+    pub fn variable(self, file: &[u8], index: u16) -> VariableAnswer
+        ensures { λ r. ⌜ variableFrom r ≡ debugAnswers (now (file .entry)) (containerIn self) .variable index ⌝ }
+    {
+        let debug = self.debug;
+        match debug {
+            MaybeDebug::None => VariableAnswer::Refused(absent(file, ContainerError::NoDebug)),
+            MaybeDebug::Some(_) => {
+                debug_section::variable(file, self.header.sections.debug_section, index)
+            }
+        }
+    }
+
+    // A function's name.
+    pub fn function_name(self, file: &[u8], index: u16) -> FunctionNameAnswer
+        ensures { λ r. ⌜ functionNameFrom r ≡ debugAnswers (now (file .entry)) (containerIn self) .functionName index ⌝ }
+    {
+        let debug = self.debug;
+        match debug {
+            MaybeDebug::None => FunctionNameAnswer::Refused(absent(file, ContainerError::NoDebug)),
+            MaybeDebug::Some(_) => {
+                debug_section::function_name(file, self.header.sections.debug_section, index)
+            }
+        }
+    }
+
+    // A string's layout.
+    pub fn string_layout(self, file: &[u8], index: u16) -> LayoutAnswer
+        ensures { λ r. ⌜ layoutFrom r ≡ debugAnswers (now (file .entry)) (containerIn self) .stringLayout index ⌝ }
+    {
+        let debug = self.debug;
+        match debug {
+            MaybeDebug::None => LayoutAnswer::Refused(absent(file, ContainerError::NoDebug)),
+            MaybeDebug::Some(_) => {
+                debug_section::string_layout(file, self.header.sections.debug_section, index)
+            }
+        }
+    }
+
+    // A source file.
+    pub fn source_file(self, file: &[u8], index: u16) -> SourceAnswer
+        ensures { λ r. ⌜ sourceFrom r ≡ debugAnswers (now (file .entry)) (containerIn self) .sourceFile index ⌝ }
+    {
+        let debug = self.debug;
+        match debug {
+            MaybeDebug::None => SourceAnswer::Refused(absent(file, ContainerError::NoDebug)),
+            MaybeDebug::Some(_) => {
+                debug_section::source_file(file, self.header.sections.debug_section, index)
+            }
+        }
+    }
+
+    // An enumeration: its name and where its values stand.
+    pub fn enumeration(self, file: &[u8], index: u16) -> EnumerationAnswer
+        ensures { λ r. ⌜ (enumerationFrom r ≡ debugAnswers (now (file .entry)) (containerIn self) .enumeration index) × ValuesPlaced (placeIn (self .header .sections .«debug_section»)) r ⌝ }
+    {
+        let debug = self.debug;
+        match debug {
+            MaybeDebug::None => EnumerationAnswer::Refused(absent(file, ContainerError::NoDebug)),
+            MaybeDebug::Some(_) => {
+                debug_section::enumeration(file, self.header.sections.debug_section, index)
+            }
+        }
+    }
+
+    // The name of a value of an enumeration.
+    pub fn enumeration_value(self, file: &[u8], index: u16, value: u16) -> ValueAnswer
+        ensures { λ r. ⌜ valueFrom r ≡ debugAnswers (now (file .entry)) (containerIn self) .enumerationValue index value ⌝ }
+    {
+        let debug = self.debug;
+        match debug {
+            MaybeDebug::None => ValueAnswer::Refused(absent(file, ContainerError::NoDebug)),
+            MaybeDebug::Some(_) => {
+                debug_section::enumeration_value(
+                    file,
+                    self.header.sections.debug_section,
+                    index,
+                    value,
+                )
+            }
+        }
     }
 }
