@@ -23,7 +23,7 @@ use Rattle.blake3.specs.Blake3.{blake3}
 use Rattle.header.proofs.Found.{header-found}
 use Rattle.integrity.specs.Hashes.{contentChecked}
 use Rattle.integrity.proofs.Laws.{laws}
-use Rattle.container.specs.Sections.{Accepted, tasksAt, typesOf, constantsAt, codeAt, sectionsOf}
+use Rattle.container.specs.Sections.{Accepted, taskCountsAt, typeCountsOf, constantCountAt, codeReadsAt, recordFrom}
 
 abbrev loaded : Header → TaskTable → Option TypeTables → List (Constant (List ℕ)) → Code → Option (Tables (List ℕ)) → Loaded
 loaded h t u cs k debug = record { header = h; tasks = t; types = u; constants = cs; code = k; debug = debug }
@@ -43,7 +43,7 @@ alike h debug (found t) (found u) (refused d) w = refl
 alike h debug (found t) (found u) (found cs) (refused d) = refl
 alike h debug (found t) (found u) (found cs) (found k) = refl
 
-pub accepted : (f : List ℕ) (h : Header) → Accepted f h → readFrom blake3 f ≡ sectionsOf f h
+pub accepted : (f : List ℕ) (h : Header) → Accepted f h → readFrom blake3 f ≡ recordFrom f h
 unfolding load readAt
 accepted f h a =
     let d = h .directory in
@@ -52,22 +52,22 @@ accepted f h a =
 
 -- each answer, by what was answered before
 module _ (f : List ℕ) (h : Header) (a : Accepted f h) where
-  pub tasks-refused : {e : Fault} → refused e ≡ tasksAt f (h .directory .tasks) → refused e ≡ readFrom blake3 f
+  pub tasks-refused : {e : Fault} → refused e ≡ taskCountsAt f (h .directory .tasks) → refused e ≡ readFrom blake3 f
   tasks-refused k = rw (accepted f h a, ← k)
 
-  module _ {t : TaskCounts} (i : found t ≡ tasksAt f (h .directory .tasks)) where
-    pub types-refused : {e : Fault} → refused e ≡ typesOf f h → refused e ≡ readFrom blake3 f
+  module _ {t : TaskCounts} (i : found t ≡ taskCountsAt f (h .directory .tasks)) where
+    pub types-refused : {e : Fault} → refused e ≡ typeCountsOf f h → refused e ≡ readFrom blake3 f
     types-refused k = rw (accepted f h a, ← i, ← k)
 
-    module _ {u : Option TypeCounts} (j : found u ≡ typesOf f h) where
-      pub constants-refused : {e : Fault} → refused e ≡ constantsAt f (h .directory .constants) → refused e ≡ readFrom blake3 f
+    module _ {u : Option TypeCounts} (j : found u ≡ typeCountsOf f h) where
+      pub constants-refused : {e : Fault} → refused e ≡ constantCountAt f (h .directory .constants) → refused e ≡ readFrom blake3 f
       constants-refused k = rw (accepted f h a, ← i, ← j, ← k)
 
-      module _ {n : ℕ} (k : found n ≡ constantsAt f (h .directory .constants)) where
-        pub code-refused : {e : Fault} → refused e ≡ codeAt f (h .directory .code) (h .runtime .functions) → refused e ≡ readFrom blake3 f
+      module _ {n : ℕ} (k : found n ≡ constantCountAt f (h .directory .constants)) where
+        pub code-refused : {e : Fault} → refused e ≡ codeReadsAt f (h .directory .code) (h .runtime .functions) → refused e ≡ readFrom blake3 f
         code-refused m = rw (accepted f h a, ← i, ← j, ← k, ← m)
 
-        pub all-found : {d : Option DebugCounts} → found tt ≡ codeAt f (h .directory .code) (h .runtime .functions) → d ≡ debugCounts (debugFound blake3 f h)
+        pub all-found : {d : Option DebugCounts} → found tt ≡ codeReadsAt f (h .directory .code) (h .runtime .functions) → d ≡ debugCounts (debugFound blake3 f h)
             → _≡_ {A = Got Container} (found (record { header = h; tasks = t; types = u; constants = n; debug = d })) (readFrom blake3 f)
         all-found m e = rw (accepted f h a, ← i, ← j, ← k, ← m, e)
 

@@ -23,7 +23,7 @@ use Rattle.base.proofs.FileLookups.{sliced, slice-is}
 use Rattle.blake3.specs.Blake3.{blake3}
 use Rattle.integrity.proofs.Laws.{laws}
 use Rattle.type_section.specs.Lookups.{countsOf}
-use Rattle.container.specs.Sections.{typesAt, typesOf, debugIn}
+use Rattle.container.specs.Sections.{typeCountsAt, typeCountsOf, debugCountsIn}
 
 abbrev counted : TypeTables → Got TypeCounts
 counted t = found (record { fbTypes = length (t .fbTypes); arrays = length (t .arrays); userFbs = length (t .userFbs) })
@@ -51,7 +51,7 @@ module _ (f : List ℕ) (p : Place) (l : length f ≤ limit) where
       go false i k = never (sym k)
 
   -- types
-  pub types-outside : {e : Fault} → refused e ≡ sectionPart f p → found none ≡ typesAt f p
+  pub types-outside : {e : Fault} → refused e ≡ sectionPart f p → found none ≡ typeCountsAt f p
   types-outside h = rw (part-outside h)
 
   some-refused : {e : Fault} (x : Got TypeTables) → refused e ≡ (x >>= counted) → refused e ≡ (x >>= λ t. found (typeCounts (some t)))
@@ -62,15 +62,15 @@ module _ (f : List ℕ) (p : Place) (l : length f ≤ limit) where
   some-found (refused d) k = never (sym k)
   some-found (found t) k = ap (λ (c : TypeCounts). found (some c)) (same-found k)
 
-  pub types-refused : {q : Place} {e : Fault} → found q ≡ sectionPart f p → refused e ≡ countsOf (sliced f q) → refused e ≡ typesAt f p
+  pub types-refused : {q : Place} {e : Fault} → found q ≡ sectionPart f p → refused e ≡ countsOf (sliced f q) → refused e ≡ typeCountsAt f p
   types-refused h k = let s = part-inside h in rw (s .inside) (some-refused (itemOf (typeTables (cut f p))) (rw (s .bytes) at k))
 
-  pub types-counted : {q : Place} {c : TypeCounts} → found q ≡ sectionPart f p → found c ≡ countsOf (sliced f q) → found (some c) ≡ typesAt f p
+  pub types-counted : {q : Place} {c : TypeCounts} → found q ≡ sectionPart f p → found c ≡ countsOf (sliced f q) → found (some c) ≡ typeCountsAt f p
   types-counted h k = let s = part-inside h in rw (s .inside) (some-found (itemOf (typeTables (cut f p))) (rw (s .bytes) at k))
 
 -- by their flag and size
 module _ (f : List ℕ) (h : Header) where
-  pub types-unsized : h .directory .types .size ≡ 0 → found none ≡ typesOf f h
+  pub types-unsized : h .directory .types .size ≡ 0 → found none ≡ typeCountsOf f h
   unfolding typesFound hasTypes
   types-unsized z =
       let s : ltb 0 (h .directory .types .size) ≡ false = le-ltb 0 (h .directory .types .size) (omega arith) in
@@ -80,12 +80,12 @@ module _ (f : List ℕ) (h : Header) where
       go true = refl
       go false = refl
 
-  pub types-unflagged : {b : Bool} → b ≡ typesFlag (h .flags) → b ≡ false → found none ≡ typesOf f h
+  pub types-unflagged : {b : Bool} → b ≡ typesFlag (h .flags) → b ≡ false → found none ≡ typeCountsOf f h
   unfolding typesFound hasTypes
   types-unflagged e z = rw (sym e ∙ z)
 
   pub types-there : {b : Bool} {x : Got (Option TypeCounts)} → b ≡ typesFlag (h .flags) → b ≡ true → (h .directory .types .size ≡ 0 → ⊥)
-      → x ≡ typesAt f (h .directory .types) → x ≡ typesOf f h
+      → x ≡ typeCountsAt f (h .directory .types) → x ≡ typeCountsOf f h
   unfolding typesFound hasTypes
   types-there {b} {x} e t n k =
       let s : ltb 0 (h .directory .types .size) ≡ true = lt-ltb 0 (h .directory .types .size) (omega arith) in
@@ -110,7 +110,7 @@ module _ (f : List ℕ) (h : Header) where
       go false = refl
 
   pub debug-there : {q : Place} {x : Option DebugCounts} → length f ≤ limit → (h .directory .debug .size ≡ 0 → ⊥) → found q ≡ sectionPart f (h .directory .debug)
-      → x ≡ debugIn (h .debugHash) (sliced f q) → x ≡ debugCounts (debugFound blake3 f h)
+      → x ≡ debugCountsIn (h .debugHash) (sliced f q) → x ≡ debugCounts (debugFound blake3 f h)
   unfolding debugFound
   debug-there {q} l n k e =
       let p = h .directory .debug in
@@ -118,4 +118,4 @@ module _ (f : List ℕ) (h : Header) where
       let a = length-cut f p (s .inside) in
       let b = inside-is f p (s .inside) .within in
       let w : length (cut f p) ≤ hashLimit = omega arith in
-      rw (lt-ltb 0 (p .size) (omega arith), s .inside, ← laws .debug (h .debugHash) (cut f p) w) (e ∙ ap (debugIn (h .debugHash)) (s .bytes))
+      rw (lt-ltb 0 (p .size) (omega arith), s .inside, ← laws .debug (h .debugHash) (cut f p) w) (e ∙ ap (debugCountsIn (h .debugHash)) (s .bytes))

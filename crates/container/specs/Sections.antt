@@ -26,31 +26,31 @@ pub record Accepted (f : List ℕ) (h : Header) : Type 0 where
   pub content : contentFits blake3 f h ≡ found tt
 
 -- tasks, constants and code: 10, then 4, then the section's own refusal
-abbrev pub tasksAt : List ℕ → Place → Got TaskCounts
-tasksAt f p = readAt f p taskTable >>= λ t. found (taskCounts t)
+abbrev pub taskCountsAt : List ℕ → Place → Got TaskCounts
+taskCountsAt f p = readAt f p taskTable >>= λ t. found (taskCounts t)
 
-abbrev pub constantsAt : List ℕ → Place → Got ℕ
-constantsAt f p = readAt f p (constants byBytes) >>= λ cs. found (length cs)
+abbrev pub constantCountAt : List ℕ → Place → Got ℕ
+constantCountAt f p = readAt f p (constants byBytes) >>= λ cs. found (length cs)
 
-abbrev pub codeAt : List ℕ → Place → ℕ → Got (Unit {0})
-codeAt f p n = readAt f p (codeOf n) >>= λ c. found tt
+abbrev pub codeReadsAt : List ℕ → Place → ℕ → Got (Unit {0})
+codeReadsAt f p n = readAt f p (codeOf n) >>= λ c. found tt
 
 -- types with their flag set and a size above 0: none where they are not in the file behind the header, else their refusal or counts
-abbrev pub typesAt : List ℕ → Place → Got (Option TypeCounts)
-typesAt f p = cond (isInside f p) (itemOf (typeTables (cut f p)) >>= λ t. found (typeCounts (some t))) (found none)
+abbrev pub typeCountsAt : List ℕ → Place → Got (Option TypeCounts)
+typeCountsAt f p = cond (isInside f p) (itemOf (typeTables (cut f p)) >>= λ t. found (typeCounts (some t))) (found none)
 
-abbrev pub typesOf : List ℕ → Header → Got (Option TypeCounts)
-typesOf f h = typesFound f h >>= λ t. found (typeCounts t)
+abbrev pub typeCountsOf : List ℕ → Header → Got (Option TypeCounts)
+typeCountsOf f h = typesFound f h >>= λ t. found (typeCounts t)
 
 -- a debug section of the bytes `s`: its counts where its hash fits and it reads
-abbrev pub debugIn : List ℕ → List ℕ → Option DebugCounts
-debugIn d s = debugCounts (cond (debugFits d s) (debugOf s) none)
+abbrev pub debugCountsIn : List ℕ → List ℕ → Option DebugCounts
+debugCountsIn d s = debugCounts (cond (debugFits d s) (debugOf s) none)
 
 -- the record of an accepted file
-abbrev pub sectionsOf : List ℕ → Header → Got Container
-sectionsOf f h = do
-  tasks ← tasksAt f (h .directory .tasks)
-  types ← typesOf f h
-  constants ← constantsAt f (h .directory .constants)
-  code ← codeAt f (h .directory .code) (h .runtime .functions)
+abbrev pub recordFrom : List ℕ → Header → Got Container
+recordFrom f h = do
+  tasks ← taskCountsAt f (h .directory .tasks)
+  types ← typeCountsOf f h
+  constants ← constantCountAt f (h .directory .constants)
+  code ← codeReadsAt f (h .directory .code) (h .runtime .functions)
   found (record { header = h; tasks = tasks; types = types; constants = constants; debug = debugCounts (debugFound blake3 f h) })
