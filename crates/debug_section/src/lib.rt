@@ -2,6 +2,7 @@
 // the file's limit, 15 where the section does not lie in the file behind the header or does not read, then the lookup's own refusal.
 use base::error::ContainerError;
 use base::id_types::FunctionId;
+use base::id_types::SourceFileId;
 use base::section::FILE_LIMIT;
 use base::section::Part;
 use base::section::PartAnswer;
@@ -204,8 +205,8 @@ pub fn string_layout(file: &[u8], section: Section, index: u16) -> LayoutAnswer
 }
 
 // The source file at a position of its table: its path and hash.
-pub fn source_file(file: &[u8], section: Section, index: u16) -> SourceAnswer
-    ensures { λ r. ⌜ sourceFrom r ≡ answersAt (now (file .entry)) (placeIn section) .sourceFile index ⌝ }
+pub fn source_file(file: &[u8], section: Section, file_id: SourceFileId) -> SourceAnswer
+    ensures { λ r. ⌜ sourceFrom r ≡ answersAt (now (file .entry)) (placeIn section) .sourceFile («file_id» .0) ⌝ }
 {
     match tables(file, section) {
         StartsAnswer::Refused(e) => SourceAnswer::Refused(e),
@@ -219,7 +220,7 @@ pub fn source_file(file: &[u8], section: Section, index: u16) -> SourceAnswer
                 start,
                 at,
                 count,
-                index as usize,
+                file_id.0 as usize,
             ) {
                 SourceFileAnswer::Fault(_) => SourceAnswer::Refused(ContainerError::NoDebug),
                 SourceFileAnswer::NoEntry => SourceAnswer::Refused(ContainerError::NoEntry),

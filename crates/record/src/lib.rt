@@ -17,6 +17,7 @@ ghost use Rattle.record.specs.Absence.{absentFault};
 use base::error::ContainerError;
 use base::id_types::ConstantIndex;
 use base::id_types::FunctionId;
+use base::id_types::SourceFileId;
 use base::section::FILE_LIMIT;
 use base::section::PartAnswer;
 use code_section::FuncAnswer;
@@ -328,14 +329,14 @@ impl Container {
     }
 
     // A source file.
-    pub fn source_file(self, file: &[u8], index: u16) -> SourceAnswer
-        ensures { λ r. ⌜ sourceFrom r ≡ debugAnswers (now (file .entry)) (containerIn self) .sourceFile index ⌝ }
+    pub fn source_file(self, file: &[u8], file_id: SourceFileId) -> SourceAnswer
+        ensures { λ r. ⌜ sourceFrom r ≡ debugAnswers (now (file .entry)) (containerIn self) .sourceFile («file_id» .0) ⌝ }
     {
         let debug = self.debug;
         match debug {
             MaybeDebug::None => SourceAnswer::Refused(absent(file, ContainerError::NoDebug)),
             MaybeDebug::Some(_) => {
-                debug_section::source_file(file, self.header.sections.debug_section, index)
+                debug_section::source_file(file, self.header.sections.debug_section, file_id)
             }
         }
     }

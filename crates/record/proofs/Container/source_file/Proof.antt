@@ -10,12 +10,12 @@ use Rattle.record.proofs.Container.source_file.Tie as tie
 returns : tie.Need-returns
 returns c =
     let a = c .before .before .before .before .args in
-    debug-absent (now (a .file)) (a .self) (λ t. indexed noEntry (t .files) (a .index)) (c .before .enum-told .given .1) (c .absent .ensures)
+    debug-absent (now (a .file)) (a .self) (λ t. indexed noEntry (t .files) (a .file-id .0)) (c .before .enum-told .given .1) (c .absent .ensures)
 
 returns-2 : tie.Need-returns-2
 returns-2 c =
     let a = c .before .before .before .before .args in
-    debug-present (now (a .file)) (a .self) (λ t. indexed noEntry (t .files) (a .index)) (c .before .enum-told2 .given .1) (c .source-file .ensures)
+    debug-present (now (a .file)) (a .self) (λ t. indexed noEntry (t .files) (a .file-id .0)) (c .before .enum-told2 .given .1) (c .source-file .ensures)
 
 pub source-file-spec : {M : Type 1} → statement M
 source-file-spec = tie.close (tie.spec (λ c. search needs) (λ c κs. search needs) (λ c. search needs) (λ c κs. search needs) returns returns-2)
