@@ -2,6 +2,7 @@
 // the file's limit, 15 where the section does not lie in the file behind the header or does not read, then the lookup's own refusal.
 use base::error::ContainerError;
 use base::id_types::FunctionId;
+use base::id_types::SourceFileId;
 use base::section::FILE_LIMIT;
 use base::section::Part;
 use base::section::PartAnswer;
@@ -31,6 +32,7 @@ ghost use mathlib.Core.Path.{_≡_};
 ghost use Rattle.base.specs.Section.{placeIn, partFrom, PartWithin};
 ghost use Rattle.line_map.specs.Answers.{lineFrom};
 ghost use Rattle.debug_section.specs.Lookups.{debugPart, startsAt, answersAt};
+ghost use Rattle.debug_section.specs.Laws.{Laws};
 ghost use Rattle.debug_section.specs.Answers.{startsFrom, Lies, variableFrom, functionNameFrom, layoutFrom, sourceFrom, enumerationFrom, ValuesPlaced, valueFrom};
 
 // Where the tables in force stand; walks over them start there.
@@ -126,7 +128,7 @@ pub fn lookup_source_location(
     }
 }
 
-// An entry of the line map.
+// The line at a position of the line map.
 pub fn line(file: &[u8], section: Section, index: u16) -> LineAnswer
     ensures { λ r. ⌜ lineFrom r ≡ answersAt (now (file .entry)) (placeIn section) .line index ⌝ }
 {
@@ -142,7 +144,7 @@ pub fn line(file: &[u8], section: Section, index: u16) -> LineAnswer
     }
 }
 
-// A variable: its index, function, section, type, name and type name.
+// The variable at a position of its table: its index, function, section, type, name and type name.
 pub fn variable(file: &[u8], section: Section, index: u16) -> VariableAnswer
     ensures { λ r. ⌜ variableFrom r ≡ answersAt (now (file .entry)) (placeIn section) .variable index ⌝ }
 {
@@ -162,7 +164,7 @@ pub fn variable(file: &[u8], section: Section, index: u16) -> VariableAnswer
     }
 }
 
-// A function's id and name.
+// The function name at a position of its table, with the function's id.
 pub fn function_name(file: &[u8], section: Section, index: u16) -> FunctionNameAnswer
     ensures { λ r. ⌜ functionNameFrom r ≡ answersAt (now (file .entry)) (placeIn section) .functionName index ⌝ }
 {
@@ -182,7 +184,7 @@ pub fn function_name(file: &[u8], section: Section, index: u16) -> FunctionNameA
     }
 }
 
-// Where a string variable lies, and its length.
+// The string layout at a position of its table: where a string variable lies in the data region, and how long it may get.
 pub fn string_layout(file: &[u8], section: Section, index: u16) -> LayoutAnswer
     ensures { λ r. ⌜ layoutFrom r ≡ answersAt (now (file .entry)) (placeIn section) .stringLayout index ⌝ }
 {
@@ -202,9 +204,9 @@ pub fn string_layout(file: &[u8], section: Section, index: u16) -> LayoutAnswer
     }
 }
 
-// A source file's path and hash.
-pub fn source_file(file: &[u8], section: Section, index: u16) -> SourceAnswer
-    ensures { λ r. ⌜ sourceFrom r ≡ answersAt (now (file .entry)) (placeIn section) .sourceFile index ⌝ }
+// The source file at a position of its table: its path and hash.
+pub fn source_file(file: &[u8], section: Section, file_id: SourceFileId) -> SourceAnswer
+    ensures { λ r. ⌜ sourceFrom r ≡ answersAt (now (file .entry)) (placeIn section) .sourceFile («file_id» .0) ⌝ }
 {
     match tables(file, section) {
         StartsAnswer::Refused(e) => SourceAnswer::Refused(e),
@@ -218,7 +220,7 @@ pub fn source_file(file: &[u8], section: Section, index: u16) -> SourceAnswer
                 start,
                 at,
                 count,
-                index as usize,
+                file_id.0 as usize,
             ) {
                 SourceFileAnswer::Fault(_) => SourceAnswer::Refused(ContainerError::NoDebug),
                 SourceFileAnswer::NoEntry => SourceAnswer::Refused(ContainerError::NoEntry),
@@ -228,7 +230,7 @@ pub fn source_file(file: &[u8], section: Section, index: u16) -> SourceAnswer
     }
 }
 
-// An enumeration: its name, and where the names of its values stand in the section.
+// The enumeration at a position of its table: its name, and where the names of its values stand in the section.
 pub fn enumeration(file: &[u8], section: Section, index: u16) -> EnumerationAnswer
     ensures { λ r. ⌜ (enumerationFrom r ≡ answersAt (now (file .entry)) (placeIn section) .enumeration index) × ValuesPlaced (placeIn section) r ⌝ }
 {
@@ -274,3 +276,8 @@ pub fn enumeration_value(file: &[u8], section: Section, index: u16, value: u16) 
         }
     }
 }
+
+// The claims of `specs/Laws.antt` hold. There is no code: the contract makes the check prove them.
+pub fn laws_hold()
+    ensures { λ _. ⌜ Laws ⌝ }
+{}

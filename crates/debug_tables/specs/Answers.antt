@@ -33,7 +33,7 @@ kindIn kind.Files = files
 kindIn kind.Enumerations = enumerations
 kindIn kind.Unknown = unknown
 
--- a payload at the place `at` of the section: it does not read, or it was read up to `m`, and as a table it stands at `t`
+-- a payload at the place `at` of the section that was read up to `m`, and stands as a table at `t`
 pub record PayloadIs {T : Type 0} (keep : Keep T) (k : Kind) (size : ℕ) (s : List ℕ) (at : ℕ) (t : Table) (m : ℕ) : Type 0 where
   pub within : m ≤ length s
   pub item : debug.Table T
@@ -41,6 +41,7 @@ pub record PayloadIs {T : Type 0} (keep : Keep T) (k : Kind) (size : ℕ) (s : L
   pub start : (u : DebugTables) → putAs k t u ≡ putStart item at u
   pub small : t .count < 65536
 
+-- a payload does not read, or does so
 abbrev pub PayloadReads : {T : Type 0} → Keep T → Kind → ℕ → List ℕ → ℕ → PayloadStep → Type 0
 PayloadReads keep k size s at (step.Fault e) = payload keep k size (drop at s) ≡ fault (faultOf e)
 PayloadReads keep k size s at (step.Table t m) = PayloadIs keep k size s at t m

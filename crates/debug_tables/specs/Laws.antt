@@ -1,4 +1,4 @@
--- What holds of a section's tables in force: they are told exactly where the section reads, and each stands where it is told.
+-- The places of the tables in force are told if and only if the section reads, and each table stands at its place.
 use Prim.Native.Nat.{ℕ}
 use mathlib.Core.Path.{_≡_}
 use mathlib.Core.List.{List}

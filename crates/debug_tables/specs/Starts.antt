@@ -19,7 +19,7 @@ nowhere = record { at = 0; count = 0 }
 abbrev pub noStarts : DebugTables
 noStarts = record { lines = nowhere; variables = nowhere; functions = nowhere; strings = nowhere; files = nowhere; enumerations = nowhere }
 
--- the tables with `t` in force as that of its kind
+-- The tables with `t` in force as that of its kind (document 01: "A later table of a tag replaces the earlier, even by an empty one")
 abbrev pub putAs : Kind → Table → DebugTables → DebugTables
 putAs lines t u =
     record { lines = t; variables = u .variables; functions = u .functions; strings = u .strings; files = u .files; enumerations = u .enumerations }
@@ -45,7 +45,7 @@ putStart (ofFiles es) at u = putAs files (record { at = at + 2; count = length e
 putStart (ofEnumerations es) at u = putAs enumerations (record { at = at + 2; count = length es }) u
 putStart skipped at u = u
 
--- the payloads in row order, in a section of `whole` bytes
+-- The payloads, in a section of `whole` bytes (document 01: "then payloads in row order")
 abbrev pub startsOf : {T : Type 0} → Keep T → ℕ → List Row → DebugTables → Reader DebugTables
 startsOf keep whole [] u = give u
 startsOf keep whole (row ∷ rows) u = do
@@ -60,9 +60,7 @@ debugStarts keep = do
   rows ← rowsOf
   startsOf keep whole rows noStarts
 
--- On the way there
-
--- document 01 lists the tag
+-- Document 01 lists the tag
 abbrev pub isListed : Kind → Bool
 isListed lines = true
 isListed variables = true

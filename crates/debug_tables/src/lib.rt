@@ -6,6 +6,7 @@ use debug_entries::string_layouts::skip_string_layouts;
 use debug_entries::var_names::skip_var_names;
 use debug_text::DebugFault;
 use debug_text::DebugWalk;
+use line_map::LINE_MAP_ENTRY_SIZE;
 use line_map::lines_fit;
 use reading::Table;
 use reading::u16_at;
@@ -36,9 +37,6 @@ const TAG_SOURCE_FILE: u16 = 6;
 
 const TAG_ENUM_DEF: u16 = 9;
 
-// Size of an entry of the line map.
-const LINE_MAP_ENTRY_SIZE: usize = 10;
-
 // Size of a row: tag, reserved, size.
 const DIR_ENTRY_SIZE: usize = 8;
 
@@ -68,7 +66,7 @@ pub enum TablesAnswer {
     Tables(DebugTables),
 }
 
-// The payload of a row: the table that it is, and the place behind it.
+// The payload of a row: where its entries stand if its tag is listed, and the place behind it.
 enum PayloadStep {
     Fault(DebugFault),
     Table(Table, usize),

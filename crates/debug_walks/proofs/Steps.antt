@@ -17,17 +17,17 @@ use Rattle.debug_section.specs.Lookups.{debugPart, valuesAt}
 use Rattle.debug_section.specs.Answers.{headIn}
 use Rattle.debug_section.proofs.Parts.{in-part, moved}
 use Rattle.debug_section.proofs.Lookups.{head-is, values-placed}
-use Rattle.debug_walks.specs.Steps.{orNone, stepIn, stepAt, entryOf}
+use Rattle.debug_walks.specs.Steps.{noDebugStep, stepBy, stepAt, entryOf}
 
 module _ (f : List ℕ) (p : Place) where
   pub step-refused : {A : Type 0} (r : Reader A) (t : Table) {e : Fault} → refused e ≡ debugPart f p → faulty e ≡ stepAt f p r t
-  step-refused r t h = ap (λ (x : Got Place). stepIn f x r t) h
+  step-refused r t h = ap (λ (x : Got Place). stepBy f x r t) h
 
   pub step-found : {A : Type 0} (r : Keep Place → Reader A) (t : Table) {q : Place} {x : Next A} → found q ≡ debugPart f p
-      → x ≡ stepOf (r (keepIn (q .offset) (sliced f q))) (sliced f q) t → orNone x ≡ stepAt f p (r (byPlace p)) t
+      → x ≡ stepOf (r (keepIn (q .offset) (sliced f q))) (sliced f q) t → noDebugStep x ≡ stepAt f p (r (byPlace p)) t
   step-found r t {q} {x} k h =
       let g = in-part f p k in
-      ap orNone (moved f p (g .same) (g .inside) (λ keep s. x ≡ stepOf (r keep) s t) h) ∙ sym (ap (λ (y : Got Place). stepIn f y (r (byPlace p)) t) (g .part))
+      ap noDebugStep (moved f p (g .same) (g .inside) (λ keep s. x ≡ stepOf (r keep) s t) h) ∙ sym (ap (λ (y : Got Place). stepBy f y (r (byPlace p)) t) (g .part))
 
   pub place-told : {q : Place} → found q ≡ debugPart f p → q .offset ≡ p .offset
   place-told k = ap (λ (x : Place). x .offset) (in-part f p k .same)

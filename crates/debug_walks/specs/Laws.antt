@@ -1,5 +1,5 @@
 -- Walks over the tables in force of a section that reads: the steps of each, driven from where the table starts, give the table.
-use Prim.Native.Nat.{ℕ, zero, suc}
+use Prim.Native.Nat.{ℕ, zero, suc, _≤_}
 use mathlib.Core.List.{List, [], map}
 use mathlib.Core.Path.{_≡_}
 use Rattle.reading.specs.Answer.{Got, found, indexed}
@@ -17,9 +17,9 @@ abbrev pub driven : {A : Type 0} → (Table → Next A) → ℕ → Table → Go
 driven step zero t = found []
 driven step (suc n) t = onNext (step t) (driven step n)
 
--- a table's start, and that as many steps as it has entries give them
+-- from a table on, as many steps as it has entries give them, and more steps give no more
 abbrev pub Gives : {A : Type 0} → (Table → Next A) → Table → List A → Type 0
-Gives step t xs = driven step (t .count) t ≡ found xs
+Gives step t xs = (n : ℕ) → t .count ≤ n → driven step n t ≡ found xs
 
 pub record Walks (f : List ℕ) (p : Place) (t : Tables Place) : Type 0 where
   pub starts : DebugTables

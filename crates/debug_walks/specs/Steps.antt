@@ -12,17 +12,17 @@ use Rattle.format.specs.Lookups.{EnumerationHead}
 use Rattle.debug_section.specs.Lookups.{debugPart, valuesAt, headOf}
 
 -- an entry that does not read gives 15
-abbrev pub orNone : {A : Type 0} → Next A → Next A
-orNone ends = ends
-orNone (faulty e) = faulty noDebug
-orNone (entry a t) = entry a t
+abbrev pub noDebugStep : {A : Type 0} → Next A → Next A
+noDebugStep ends = ends
+noDebugStep (faulty e) = faulty noDebug
+noDebugStep (entry a t) = entry a t
 
-abbrev pub stepIn : {A : Type 0} → List ℕ → Got Place → Reader A → Table → Next A
-stepIn f (refused e) r t = faulty e
-stepIn f (found p) r t = orNone (stepOf r (cut f p) t)
+abbrev pub stepBy : {A : Type 0} → List ℕ → Got Place → Reader A → Table → Next A
+stepBy f (refused e) r t = faulty e
+stepBy f (found p) r t = noDebugStep (stepOf r (cut f p) t)
 
 abbrev pub stepAt : {A : Type 0} → List ℕ → Place → Reader A → Table → Next A
-stepAt f p r t = stepIn f (debugPart f p) r t
+stepAt f p r t = stepBy f (debugPart f p) r t
 
 -- Enumerations: a step answers the head, and the table of the values' names
 

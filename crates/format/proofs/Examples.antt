@@ -26,15 +26,15 @@ use Rattle.format.specs.Examples.{lineRow, lineTable, lines, unknownRow,
 use Rattle.format.specs.Examples.{FirstHalfSpeaks, TypesPremiseNeeded, EmptyCodePlaceNeeded, ContentHashNeeded, SecondHalfSpeaks}
 use Rattle.format.specs.Cases.{Cases, WrongTurns}
 
-inside : (f : List ℕ) (p : Place) → T (leb 256 (p .offset)) → T (leb (p .offset + p .size) (length f)) → Inside f p
+pub inside : (f : List ℕ) (p : Place) → T (leb 256 (p .offset)) → T (leb (p .offset + p .size) (length f)) → Inside f p
 inside f p a b = record { behind = lit≤ a; within = lit≤ b }
 
 -- what was found, where it is seen that something was
-abbrev isFound : {A : Type 0} → Got A → Bool
+abbrev pub isFound : {A : Type 0} → Got A → Bool
 isFound (refused r) = false
 isFound (found a) = true
 
-abbrev the-found : {A : Type 0} (x : Got A) → T (isFound x) → (a : A) × (x ≡ found a)
+abbrev pub the-found : {A : Type 0} (x : Got A) → T (isFound x) → (a : A) × (x ≡ found a)
 the-found (refused r) h = absurd h
 the-found (found a) h = (a, refl)
 
@@ -108,7 +108,7 @@ content-hash-needed hash =
 -- The second half
 
 -- the sections: M's has the row of lines, the other an unknown row before it
-sections : Added lines linesMore
+pub sections : Added lines linesMore
 unfolding rowsOf bytes le tableOf tagOf sizeOf kindOf line
 sections =
     let known : RowAndPayload = record { row = lineRow 0; payload = lineTable } in

@@ -19,7 +19,7 @@ use base::id_types::SourceLine;
 use reading::Table;
 use reading::u16_at;
 
-const LINE_MAP_ENTRY_SIZE: usize = 10;
+pub const LINE_MAP_ENTRY_SIZE: usize = 10;
 
 // An entry of the line map: where in the source the bytecode at an offset of a function comes from.
 pub struct LineMapEntry {

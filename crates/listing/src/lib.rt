@@ -8,23 +8,15 @@ ghost use Rattle.text.specs.Text.{Wrote};
 ghost use Rattle.header.specs.Answers.{headerIn};
 ghost use Rattle.entry_lines.specs.Lines.{lineRoom};
 ghost use Rattle.listing.specs.Lines.{containerLine, debugLine, endLine, refusedLine};
-ghost use Rattle.listing.specs.Answers.{countsIn};
+ghost use Rattle.debug_tables.specs.Answers.{countsIn, maybeDebug};
 ghost use Rattle.listing.specs.Laws.{AllLaws};
 use base::error::ContainerError;
+use debug_tables::DebugCounts;
+use debug_tables::MaybeDebug;
 use header::FileHeader;
 use text::put_bytes;
 use text::put_dash_line;
 use text::put_line;
-
-// How many entries each table of the debug section has.
-pub struct DebugCounts {
-    pub lines: u16,
-    pub variables: u16,
-    pub functions: u16,
-    pub strings: u16,
-    pub files: u16,
-    pub enumerations: u16,
-}
 
 pub fn put_container(out: &mut [u8], at: usize, h: FileHeader) -> usize
     requires { ⌜ at + lineRoom ≤ length (now out) ⌝ }
@@ -34,7 +26,8 @@ pub fn put_container(out: &mut [u8], at: usize, h: FileHeader) -> usize
     put_line(out, at, b"container", &ns)
 }
 
-pub fn put_debug(out: &mut [u8], at: usize, c: DebugCounts) -> usize
+// The counts of the debug tables.
+fn put_counts(out: &mut [u8], at: usize, c: DebugCounts) -> usize
     requires { ⌜ at + lineRoom ≤ length (now out) ⌝ }
     ensures { λ r. ⌜ Wrote (now (out .entry)) at (debugLine (some (countsIn c))) (now (out .exit)) r ⌝ }
 {
@@ -49,11 +42,21 @@ pub fn put_debug(out: &mut [u8], at: usize, c: DebugCounts) -> usize
     put_line(out, at, b"debug", &ns)
 }
 
-pub fn put_no_debug(out: &mut [u8], at: usize) -> usize
+fn put_no_debug(out: &mut [u8], at: usize) -> usize
     requires { ⌜ at + lineRoom ≤ length (now out) ⌝ }
     ensures { λ r. ⌜ Wrote (now (out .entry)) at (debugLine none) (now (out .exit)) r ⌝ }
 {
     put_bytes(out, at, b"debug none\n")
+}
+
+pub fn put_debug(out: &mut [u8], at: usize, debug: MaybeDebug) -> usize
+    requires { ⌜ at + lineRoom ≤ length (now out) ⌝ }
+    ensures { λ r. ⌜ Wrote (now (out .entry)) at (debugLine (maybeDebug debug)) (now (out .exit)) r ⌝ }
+{
+    match debug {
+        MaybeDebug::None => put_no_debug(out, at),
+        MaybeDebug::Some(c) => put_counts(out, at, c),
+    }
 }
 
 pub fn put_end(out: &mut [u8], at: usize) -> usize

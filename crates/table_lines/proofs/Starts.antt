@@ -31,7 +31,8 @@ use Rattle.code_section.proofs.Entries as code-section
 use Rattle.debug_section.specs.Lookups.{debugPart, startsAt}
 use Rattle.debug_section.proofs.Parts.{tables-refused, tables-stand}
 use Rattle.debug_tables.specs.declared.DebugTables.{DebugTables}
-use Rattle.debug_walks.specs.Steps.{orNone, stepIn, stepAt}
+use Rattle.debug_walks.specs.Steps.{noDebugStep, stepBy, stepAt}
+use Rattle.debug_walks.proofs.Walks.{step-count}
 use Rattle.debug_walks.proofs.Walks as debug-walks
 use Rattle.entry_lines.specs.Lines.{taskLine, programLine, constantLine, functionLine, lineLine}
 use Rattle.entry_lines.specs.Answers.{withBytes}
@@ -40,7 +41,7 @@ use Rattle.listing.specs.Listing.{each, indexedFrom}
 use Rattle.table_lines.specs.Walks.{walkText}
 use Rattle.table_lines.specs.Tables.{textOf, tasksText, programsText, constantsText, functionsText, linesText}
 use Rattle.table_lines.proofs.Walking.{Falls}
-use Rattle.table_lines.proofs.Texts.{each-indexed, driven-text, falls-of, read-there, read-short, read-small, text-refused, start-text}
+use Rattle.table_lines.proofs.Texts.{each-indexed, driven-text, read-there, read-short, read-small, text-refused, start-text}
 use Rattle.table_lines.proofs.Counts.{many-takes, takes-constant}
 
 -- what was read, with the bytes behind it
@@ -140,7 +141,7 @@ module _ (f : List ℕ) (p : Place) where
       let z : w .starts ≡ u = same-found (sym (w .started) ∙ sym e) in
       ap (λ x. textOf x (λ t. each lineLine (t .lines))) (k .reads)
       ∙ each-indexed 0 lineLine (k .tables .lines)
-      ∙ sym (driven-text (stepAt f p line) (λ i. lineLine) 0 (w .starts .lines .count) (w .starts .lines) (k .tables .lines) (w .lines))
+      ∙ sym (driven-text (stepAt f p line) (λ i. lineLine) 0 (w .starts .lines .count) (w .starts .lines) (k .tables .lines) (w .lines (w .starts .lines .count) (omega arith)))
       ∙ ap (λ (v : DebugTables). walkText 0 (stepAt f p line) (λ i. lineLine) (v .lines .count) (v .lines)) z
 
   pub lines-none : {g : Fault} → refused g ≡ startsAt f p → linesText f p ≡ []
@@ -149,11 +150,11 @@ module _ (f : List ℕ) (p : Place) where
   pub lines-fall : Falls (stepAt f p line)
   lines-fall t u a e = go (debugPart f p) e
     where
-      through : (x : Next Line) → orNone x ≡ entry a u → x ≡ entry a u
+      through : (x : Next Line) → noDebugStep x ≡ entry a u → x ≡ entry a u
       through ends e = absurd (let z : _≡_ {A = ℕ} 0 1 = cc in omega arith)
       through (faulty g) e = absurd (let z : _≡_ {A = ℕ} 0 1 = cc in omega arith)
       through (entry b v) e = e
 
-      go : (x : Got Place) → stepIn f x line t ≡ entry a u → u .count ≡ t .count - 1
+      go : (x : Got Place) → stepBy f x line t ≡ entry a u → u .count ≡ t .count - 1
       go (refused g) e = absurd (let z : _≡_ {A = ℕ} 0 1 = cc in omega arith)
-      go (found q) e = falls-of line (cut f q) t u a (through (stepOf line (cut f q) t) e)
+      go (found q) e = step-count line (cut f q) t (through (stepOf line (cut f q) t) e)

@@ -1,16 +1,16 @@
 -- The text of a walk that gives a table is the table's text; steps over a file; and the text of a table of a file from where its walk starts.
 use Prim.Native.Nat.{ℕ, zero, suc, _-_, _≤_}
 use mathlib.Core.Path.{_≡_, refl, sym, ap, _∙_}
-use mathlib.Core.Bool.{Bool, true, false, cond}
+use mathlib.Core.Bool.{Bool, true, false}
 use mathlib.Core.List.{List, [], _∷_, _++_}
 use native.Mathlib.Omega.{arith}
-use lib.Dec.{eqb, leb}
-use lib.ListN.{length, drop}
+use lib.Dec.{leb}
+use lib.ListN.{length}
 use borrow.Author.Tests.{leb-true}
 use Rattle.reading.specs.Fault.{Fault}
-use Rattle.reading.specs.Reader.{Read, fault, got, Reader}
+use Rattle.reading.specs.Reader.{Reader}
 use Rattle.reading.specs.Answer.{Got, refused, found, _>>=_, need, itemOf}
-use Rattle.reading.specs.Places.{Next, ends, faulty, entry, nextOf, stepOf, onNext, walked}
+use Rattle.reading.specs.Places.{Next, ends, faulty, entry, stepOf, onNext, walked}
 use Rattle.reading.specs.declared.Table.{Table}
 use Rattle.reading.proofs.Parts.{length-part}
 use Rattle.format.specs.Faults.{tooLong}
@@ -22,6 +22,7 @@ use Rattle.base.specs.Section.{sectionPart, stepBy, stepIn}
 use Rattle.base.proofs.Sections.{section-refused, section-found}
 use Rattle.listing.specs.Listing.{each, indexedFrom}
 use Rattle.debug_walks.specs.Laws.{driven}
+use Rattle.debug_walks.proofs.Walks.{step-count}
 use Rattle.table_lines.specs.Walks.{onStep, walkText}
 use Rattle.table_lines.specs.Tables.{textOf}
 use Rattle.table_lines.proofs.Walking.{Falls}
@@ -56,23 +57,14 @@ pub walk-text : {A : Type 0} (r : Reader A) (s : List ℕ) (lineOf : ℕ → A �
     → walkText i (stepOf r s) lineOf n t ≡ indexedFrom i lineOf xs
 walk-text r s lineOf i n t xs e = driven-text (stepOf r s) lineOf i n t xs (walked-driven r s n t ∙ e)
 
--- a step that answers an entry leaves one less
-pub falls-of : {A : Type 0} (r : Reader A) (s : List ℕ) → Falls (stepOf r s)
-unfolding stepOf
-falls-of {A} r s t u a e = go (eqb (t .count) 0) (r (drop (t .at) s)) e
-  where
-    go : (z : Bool) (x : Read A) → cond z ends (nextOf s t x) ≡ entry a u → u .count ≡ t .count - 1
-    go true x e = absurd (let z : _≡_ {A = ℕ} 0 1 = cc in omega arith)
-    go false (fault f) e = absurd (let z : _≡_ {A = ℕ} 0 1 = cc in omega arith)
-    go false (got b rest) e = let z : record { at = length s - length rest; count = t .count - 1 } ≡ u = cc in sym (ap (λ (v : Table). v .count) z)
-
 module _ (f : List ℕ) (p : Place) where
+  -- a step that answers an entry leaves one fewer
   pub falls-in : {A : Type 0} (r : Reader A) → Falls (stepIn f p r)
   falls-in r t u a e = go (sectionPart f p) e
     where
       go : (x : Got Place) → stepBy f x r t ≡ entry a u → u .count ≡ t .count - 1
       go (refused g) e = absurd (let z : _≡_ {A = ℕ} 0 1 = cc in omega arith)
-      go (found q) e = falls-of r (cut f q) t u a e
+      go (found q) e = step-count r (cut f q) t e
 
   -- a section that reads
   module _ {T : Type 0} (R : Reader T) (a : T) (e : readAt f p R ≡ found a) where

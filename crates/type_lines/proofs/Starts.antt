@@ -25,10 +25,11 @@ use Rattle.type_section.proofs.Walking as type-section
 use Rattle.text.specs.Text.{Wrote}
 use Rattle.entry_lines.specs.Lines.{fbTypeLine, fieldLine, arrayLine, userFbLine}
 use Rattle.listing.specs.Listing.{each, fbTypeLines}
+use Rattle.debug_walks.proofs.Walks.{step-count}
 use Rattle.table_lines.specs.Walks.{onStep, walkText}
 use Rattle.table_lines.specs.Tables.{textOf}
 use Rattle.table_lines.proofs.Walking.{Falls, Left, left-next}
-use Rattle.table_lines.proofs.Texts.{each-indexed, walk-text, falls-of, falls-in, read-there, read-small, start-text}
+use Rattle.table_lines.proofs.Texts.{each-indexed, walk-text, falls-in, read-there, read-small, start-text}
 use Rattle.table_lines.proofs.Counts.{many-takes, takes-width}
 use Rattle.type_lines.specs.Tables.{fbTypesText, fieldsText, arraysText, userFbsText}
 
@@ -80,7 +81,7 @@ module _ {A : Type 0} (r : Reader A) (s : List ℕ) where
       go rec (entry a u) h e =
           let k = steps (walked n r s u) e in
           let z : a ∷ k .item ≡ xs = same-found (k .second) in
-          ap length (sym z) ∙ ap suc (rec u (k .item) (omega (arith, falls-of r s t u a h)) (k .first))
+          ap length (sym z) ∙ ap suc (rec u (k .item) (omega (arith, step-count r s t h)) (k .first))
 
 -- an FB type's line and its fields'
 abbrev pub fbTypeBy : (Table → Next Field) → ℕ → FbTypeEntry → List ℕ

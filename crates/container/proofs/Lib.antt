@@ -1,0 +1,4 @@
+pub mod Digests
+pub mod Examples
+pub mod Parts
+pub mod Loading

@@ -1,0 +1,121 @@
+-- Types and debug of a file within the limit, by what the section's part of the file is.
+use mathlib.Core.Path.{_≡_, refl, sym, ap, _∙_}
+use mathlib.Core.Bool.{Bool, true, false, _&&_, cond}
+use mathlib.Core.List.{List}
+use mathlib.Core.Option.{Option, none, some}
+use native.Mathlib.Omega.{arith}
+use Prim.Native.Nat.{ℕ, _≤_}
+use lib.Dec.{ltb}
+use lib.ListN.{length}
+use borrow.Author.Tests.{le-leb, lt-ltb, le-ltb}
+use Rattle.reading.specs.Fault.{Fault}
+use Rattle.reading.specs.Answer.{Got, refused, found, _>>=_, _>>_, need, itemOf}
+use Rattle.format.specs.Faults.{sectionSizeMismatch}
+use Rattle.format.specs.Parts.{limit, hashLimit, Place, cut, isInside}
+use Rattle.format.specs.Header.{Header, typesFlag}
+use Rattle.format.specs.Types.{TypeTables, typeTables}
+use Rattle.format.specs.Load.{hasTypes, typesFound, debugOf, debugHashRight, debugFound}
+use Rattle.format.specs.Record.{TypeCounts, DebugCounts, typeCounts, debugCounts}
+use Rattle.format.proofs.Answers.{never, same-found}
+use Rattle.format.proofs.Places.{length-cut, inside-is}
+use Rattle.base.specs.Section.{sectionPart}
+use Rattle.base.proofs.FileLookups.{sliced, slice-is}
+use Rattle.blake3.specs.Blake3.{blake3}
+use Rattle.integrity.proofs.Laws.{laws}
+use Rattle.type_section.specs.Lookups.{countsOf}
+use Rattle.container.specs.Sections.{typeCountsAt, typeCountsOf, debugCountsIn}
+
+abbrev counted : TypeTables → Got TypeCounts
+counted t = found (record { fbTypes = length (t .fbTypes); arrays = length (t .arrays); userFbs = length (t .userFbs) })
+
+-- the part of a file within the limit that a section is, or none
+module _ (f : List ℕ) (p : Place) (l : length f ≤ limit) where
+  pub part-outside : {e : Fault} → refused e ≡ sectionPart f p → isInside f p ≡ false
+  unfolding sectionPart
+  part-outside {e} h = go (isInside f p) (rw (le-leb _ _ l) at h)
+    where
+      go : (z : Bool) → refused e ≡ (need z sectionSizeMismatch >> found p) → z ≡ false
+      go true k = never k
+      go false k = refl
+
+  pub record Part (q : Place) : Type 0 where
+    pub inside : isInside f p ≡ true
+    pub bytes : sliced f q ≡ cut f p
+
+  pub part-inside : {q : Place} → found q ≡ sectionPart f p → Part q
+  unfolding sectionPart
+  part-inside {q} h = go (isInside f p) refl (rw (le-leb _ _ l) at h)
+    where
+      go : (z : Bool) → isInside f p ≡ z → found q ≡ (need z sectionSizeMismatch >> found p) → Part q
+      go true i k = record { inside = i; bytes = slice-is f q ∙ ap (cut f) (same-found k) }
+      go false i k = never (sym k)
+
+  -- types
+  pub types-outside : {e : Fault} → refused e ≡ sectionPart f p → found none ≡ typeCountsAt f p
+  types-outside h = rw (part-outside h)
+
+  some-refused : {e : Fault} (x : Got TypeTables) → refused e ≡ (x >>= counted) → refused e ≡ (x >>= λ t. found (typeCounts (some t)))
+  some-refused (refused d) k = cc
+  some-refused (found t) k = never k
+
+  some-found : {c : TypeCounts} (x : Got TypeTables) → found c ≡ (x >>= counted) → found (some c) ≡ (x >>= λ t. found (typeCounts (some t)))
+  some-found (refused d) k = never (sym k)
+  some-found (found t) k = ap (λ (c : TypeCounts). found (some c)) (same-found k)
+
+  pub types-refused : {q : Place} {e : Fault} → found q ≡ sectionPart f p → refused e ≡ countsOf (sliced f q) → refused e ≡ typeCountsAt f p
+  types-refused h k = let s = part-inside h in rw (s .inside) (some-refused (itemOf (typeTables (cut f p))) (rw (s .bytes) at k))
+
+  pub types-counted : {q : Place} {c : TypeCounts} → found q ≡ sectionPart f p → found c ≡ countsOf (sliced f q) → found (some c) ≡ typeCountsAt f p
+  types-counted h k = let s = part-inside h in rw (s .inside) (some-found (itemOf (typeTables (cut f p))) (rw (s .bytes) at k))
+
+-- by their flag and size
+module _ (f : List ℕ) (h : Header) where
+  pub types-unsized : h .directory .types .size ≡ 0 → found none ≡ typeCountsOf f h
+  unfolding typesFound hasTypes
+  types-unsized z =
+      let s : ltb 0 (h .directory .types .size) ≡ false = le-ltb 0 (h .directory .types .size) (omega arith) in
+      rw s (go (typesFlag (h .flags)))
+    where
+      go : (b : Bool) → found none ≡ (cond (b && false && isInside f (h .directory .types)) (itemOf (typeTables (cut f (h .directory .types))) >>= λ t. found (some t)) (found none) >>= λ t. found (typeCounts t))
+      go true = refl
+      go false = refl
+
+  pub types-unflagged : {b : Bool} → b ≡ typesFlag (h .flags) → b ≡ false → found none ≡ typeCountsOf f h
+  unfolding typesFound hasTypes
+  types-unflagged e z = rw (sym e ∙ z)
+
+  pub types-there : {b : Bool} {x : Got (Option TypeCounts)} → b ≡ typesFlag (h .flags) → b ≡ true → (h .directory .types .size ≡ 0 → ⊥)
+      → x ≡ typeCountsAt f (h .directory .types) → x ≡ typeCountsOf f h
+  unfolding typesFound hasTypes
+  types-there {b} {x} e t n k =
+      let s : ltb 0 (h .directory .types .size) ≡ true = lt-ltb 0 (h .directory .types .size) (omega arith) in
+      rw (sym e ∙ t, s) (k ∙ go (isInside f (h .directory .types)) (itemOf (typeTables (cut f (h .directory .types)))))
+    where
+      go : (i : Bool) (y : Got TypeTables) → cond i (y >>= λ t. found (typeCounts (some t))) (found none) ≡ (cond i (y >>= λ t. found (some t)) (found none) >>= λ t. found (typeCounts t))
+      go true (refused d) = refl
+      go true (found t) = refl
+      go false y = refl
+
+  -- debug
+  pub debug-unsized : h .directory .debug .size ≡ 0 → none ≡ debugCounts (debugFound blake3 f h)
+  unfolding debugFound
+  debug-unsized z = rw (le-ltb 0 (h .directory .debug .size) (omega arith))
+
+  pub debug-outside : {e : Fault} → length f ≤ limit → refused e ≡ sectionPart f (h .directory .debug) → none ≡ debugCounts (debugFound blake3 f h)
+  unfolding debugFound
+  debug-outside l k = rw (part-outside f (h .directory .debug) l k) (go (ltb 0 (h .directory .debug .size)))
+    where
+      go : (b : Bool) → none ≡ debugCounts (cond (b && false && debugHashRight blake3 f h) (debugOf (cut f (h .directory .debug))) none)
+      go true = refl
+      go false = refl
+
+  pub debug-there : {q : Place} {x : Option DebugCounts} → length f ≤ limit → (h .directory .debug .size ≡ 0 → ⊥) → found q ≡ sectionPart f (h .directory .debug)
+      → x ≡ debugCountsIn (h .debugHash) (sliced f q) → x ≡ debugCounts (debugFound blake3 f h)
+  unfolding debugFound
+  debug-there {q} l n k e =
+      let p = h .directory .debug in
+      let s = part-inside f p l k in
+      let a = length-cut f p (s .inside) in
+      let b = inside-is f p (s .inside) .within in
+      let w : length (cut f p) ≤ hashLimit = omega arith in
+      rw (lt-ltb 0 (p .size) (omega arith), s .inside, ← laws .debug (h .debugHash) (cut f p) w) (e ∙ ap (debugCountsIn (h .debugHash)) (s .bytes))

@@ -1,0 +1,10 @@
+-- `container::examples_hold` has no code: its contract is that the examples are as said.
+use Rattle.container.proofs.Examples.{examples}
+use Rattle.container.proofs.examples_hold.Statement.{statement}
+use Rattle.container.proofs.examples_hold.Tie as tie
+
+returns : tie.Need-returns
+returns c = examples
+
+pub examples-hold-spec : {M : Type 1} → statement M
+examples-hold-spec = tie.close (tie.spec returns)

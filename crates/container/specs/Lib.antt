@@ -1,0 +1,4 @@
+pub mod Answers
+pub mod Sections
+pub mod Independence
+pub mod Examples

@@ -1,0 +1,24 @@
+-- What the code's record means.
+use mathlib.Core.Option.{Option, none, some}
+use Rattle.format.specs.Record as format
+use Rattle.header.specs.Answers.{headerIn}
+use Rattle.task_table.specs.Answers as tasks
+use Rattle.type_section.specs.Answers as types
+use Rattle.debug_tables.specs.Answers.{maybeDebug}
+use Rattle.record.specs.declared.MaybeTypes.{MaybeTypes}
+use Rattle.record.specs.declared.MaybeTypes.the-variants as maybe-types
+use Rattle.record.specs.declared.Container.{Container}
+
+abbrev pub maybeTypes : MaybeTypes → Option format.TypeCounts
+maybeTypes maybe-types.None = none
+maybeTypes (maybe-types.Some c) = some (types.countsIn c)
+
+abbrev pub containerIn : Container → format.Container
+containerIn c =
+    record {
+      header = headerIn (c .header);
+      tasks = tasks.countsIn (c .tasks);
+      types = maybeTypes (c .types);
+      constants = c .constants;
+      debug = maybeDebug (c .debug);
+    }
