@@ -5,7 +5,7 @@ use std::fs;
 
 use crate::answers::{answer, is_sorted};
 use crate::bytes::from_hex;
-use crate::generate;
+use crate::generate::{self, Made};
 use crate::listing::listing;
 use crate::port::{self, Port};
 use crate::questions::{questions, Question};
@@ -39,37 +39,43 @@ fn first_difference(rust: &[&str], port: &[&str]) -> Option<String> {
     Some(format!("the Rust: {}; the port: {}", show(rust.get(at)), show(port.get(at))))
 }
 
+#[derive(Default)]
 struct Run {
     outcomes: BTreeMap<String, usize>,
     kinds: BTreeMap<&'static str, usize>,
     answers: usize,
     differ: usize,
     bytes: usize,
+    small: usize,
 }
 
 impl Run {
-    fn note(&mut self, outcome: &str) {
+    fn count(&mut self, outcome: &str) {
         *self.outcomes.entry(outcome.to_string()).or_default() += 1;
     }
 
     /// What the files of the run exercise, by the Rust's side.
-    fn note_reading(&mut self, reading: &Reading) {
+    fn note(&mut self, made: &Made, reading: &Reading) {
+        *self.kinds.entry(made.kind).or_default() += 1;
+        self.bytes += made.bytes.len();
+        self.small += (made.bytes.len() < 2048) as usize;
         let c = match reading {
             Reading::Refused(line) => {
                 let number = line.split(' ').nth(1).unwrap_or("?");
-                return self.note(&format!("refused {number:>2}"));
+                return self.count(&format!("refused {number:>2}"));
             }
-            Reading::Unexpected(_) => return self.note("unexpected"),
+            Reading::Panicked => return self.count("refused  4 (a panic of the Rust)"),
+            Reading::Unexpected(_) => return self.count("unexpected"),
             Reading::Loaded(c) => c,
         };
-        self.note("loaded");
-        self.note(if c.header.content_hash == [0; 32] { "loaded, unhashed" } else { "loaded, hashed" });
+        self.count("loaded");
+        self.count(if c.header.content_hash == [0; 32] { "loaded, unhashed" } else { "loaded, hashed" });
         if c.type_section.is_some() {
-            self.note("loaded, with types");
+            self.count("loaded, with types");
         }
         if let Some(d) = &c.debug_section {
-            self.note("loaded, with debug");
-            self.note(if is_sorted(&d.line_map) { "debug, lines sorted" } else { "debug, lines unsorted" });
+            self.count("loaded, with debug");
+            self.count(if is_sorted(&d.line_map) { "debug, lines sorted" } else { "debug, lines unsorted" });
         }
     }
 
@@ -80,7 +86,7 @@ impl Run {
         };
         println!("files: {}", line(self.kinds.iter().map(|(k, n)| (k.to_string(), *n)).collect()));
         println!("the Rust: {}", line(self.outcomes.iter().map(|(k, n)| (k.clone(), *n)).collect()));
-        println!("{} bytes, {} answers compared", self.bytes, self.answers);
+        println!("{} bytes, {} files under 2 KiB, {} answers", self.bytes, self.small, self.answers);
     }
 }
 
@@ -119,19 +125,11 @@ const SHOWN: usize = 20;
 
 /// Compares the files of a run. True if none differs.
 pub fn run(count: u64, seed: u64, port: &Port, directory: Option<&str>) -> bool {
-    let mut run = Run {
-        outcomes: BTreeMap::new(),
-        kinds: BTreeMap::new(),
-        answers: 0,
-        differ: 0,
-        bytes: 0,
-    };
+    let mut run = Run::default();
     for index in 0..count {
         let made = generate::file(seed, index);
         let reading = read(&made.bytes);
-        *run.kinds.entry(made.kind).or_default() += 1;
-        run.bytes += made.bytes.len();
-        run.note_reading(&reading);
+        run.note(&made, &reading);
         let Some((what, rust, port)) = one(&made.bytes, &reading, port, &mut run) else {
             continue;
         };
@@ -150,6 +148,27 @@ pub fn run(count: u64, seed: u64, port: &Port, directory: Option<&str>) -> bool 
     }
     run.show();
     println!("{count} compared, {} differ", run.differ);
+    run.differ == 0
+}
+
+/// The Rust alone on the files of a run: what they exercise, and whether it panics exactly where document 01 has 4.
+pub fn survey(count: u64, seed: u64) -> bool {
+    let mut run = Run::default();
+    for index in 0..count {
+        let made = generate::file(seed, index);
+        let reading = read(&made.bytes);
+        run.note(&made, &reading);
+        for q in questions(&made.bytes, &reading, false) {
+            answer(&made.bytes, &reading, &q);
+            run.answers += 1;
+        }
+        if let Reading::Unexpected(what) = &reading {
+            run.differ += 1;
+            println!("unexpected: seed {seed} file {index}: {what}");
+        }
+    }
+    run.show();
+    println!("{count} surveyed, {} unexpected", run.differ);
     run.differ == 0
 }
 

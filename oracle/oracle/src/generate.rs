@@ -337,6 +337,23 @@ fn at_limit(p: &mut Prng) -> Vec<u8> {
     file
 }
 
+/// Another magic or version in a file that is good otherwise, hashed anew or not.
+fn other_start(p: &mut Prng, file: &mut [u8]) {
+    let starts: [[u8; 6]; 9] = [
+        [0x43, 0x4C, 0x50, 0x49, 3, 0],
+        [0x43, 0x4C, 0x50, 0x49, 5, 0],
+        [0x43, 0x4C, 0x50, 0x49, 0, 4],
+        [0x43, 0x4C, 0x50, 0x49, 4, 1],
+        [0x43, 0x4C, 0x50, 0x49, 0, 0],
+        [0x49, 0x50, 0x4C, 0x43, 4, 0],
+        [0x49, 0x50, 0x4C, 0x43, 5, 0],
+        [0x43, 0x4C, 0x50, 0x48, 4, 0],
+        [0x42, 0x4C, 0x50, 0x49, 4, 0],
+    ];
+    let start = p.pick(&starts);
+    put(file, 0, &start);
+}
+
 /// Files of a few bytes, with and without a header's start.
 fn short(p: &mut Prng) -> Vec<u8> {
     let size = p.pick(&[0, 1, 4, 6, 255, 256, 257, 261, 262, 300]);
@@ -390,7 +407,16 @@ pub fn file(seed: u64, index: u64) -> Made {
             let moves = p.below(3);
             ("several", finish(p, plan, hash, moves))
         }
-        82..=89 => {
+        82 => {
+            let plan = plan(p, none, big);
+            let mut file = finish(p, plan, Hashed::No, 0);
+            other_start(p, &mut file);
+            if p.chance(50) {
+                hash_in(&mut file);
+            }
+            ("other start", file)
+        }
+        83..=89 => {
             let plan = plan(p, none, big);
             let mut file = finish(p, plan, Hashed::No, 0);
             flip(p, &mut file);

@@ -142,6 +142,7 @@ pub fn listing(reading: &Reading) -> String {
     match reading {
         Reading::Loaded(c) => loaded(c),
         Reading::Refused(line) => format!("{line}\n"),
+        Reading::Panicked => "refused 4 -\n".to_string(),
         Reading::Unexpected(what) => format!("unexpected: {what}\n"),
     }
 }

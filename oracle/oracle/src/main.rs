@@ -1,6 +1,7 @@
 //! The oracle: the Rust container reader against the port.
 //!
 //!     oracle compare N SEED lister|replier PROGRAM [DIR]   N files of a run on both sides; differing ones go to DIR
+//!     oracle survey N SEED                                 the Rust alone: what the files of a run exercise
 //!     oracle list | reply                                  the Rust's listing (and answers) of the file on standard input
 //!     oracle make SEED INDEX                               one file of a run, to standard output
 //!     oracle replies STORED                                the Rust's listings against stored ones
@@ -27,7 +28,7 @@ fn number(word: &str) -> u64 {
 
 fn usage(what: &str) -> ! {
     eprintln!("oracle: {what}");
-    eprintln!("oracle compare N SEED lister|replier PROGRAM [DIR] | list | reply | make SEED INDEX | replies STORED");
+    eprintln!("oracle compare N SEED lister|replier PROGRAM [DIR] | survey N SEED | list | reply | make SEED INDEX | replies STORED");
     exit(2)
 }
 
@@ -72,6 +73,7 @@ fn main() {
             let made = generate::file(number(seed), number(index));
             std::io::stdout().write_all(&made.bytes).is_ok()
         }
+        ["survey", count, seed] => compare::survey(number(count), number(seed)),
         ["replies", stored] => compare::replies(stored),
         ["compare", ref rest @ ..] => compare(rest),
         _ => usage("what is to be done?"),

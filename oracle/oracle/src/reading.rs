@@ -18,6 +18,8 @@ pub const LIMIT: usize = 65_536;
 pub enum Reading {
     Loaded(Box<Container>),
     Refused(String),
+    /// The Rust panics, and document 01's step 4 gives 4.
+    Panicked,
     /// The Rust panicked where document 01 has no 4, or did not where it has: a finding about the papers.
     Unexpected(String),
 }
@@ -52,7 +54,7 @@ pub fn read(file: &[u8]) -> Reading {
     match (answer, step_4_refuses(file)) {
         (Ok(Ok(container)), false) => Reading::Loaded(Box::new(container)),
         (Ok(Err(error)), false) => Reading::Refused(refusal(&error)),
-        (Err(_), true) => Reading::Refused("refused 4 -".to_string()),
+        (Err(_), true) => Reading::Panicked,
         (Err(_), false) => Reading::Unexpected("the Rust panics where document 01 has no 4".to_string()),
         (Ok(_), true) => Reading::Unexpected("document 01 has 4 and the Rust does not panic".to_string()),
     }

@@ -113,7 +113,9 @@ fn array(p: &mut Prng, s: &mut Section, bad: bool) {
         (false, false) => natural,
         (false, true) if p.chance(50) => natural,
         (false, true) => natural.saturating_add(p.u32()),
-        (true, true) => natural - 1 - p.below(natural as usize) as u32,
+        (true, true) if p.chance(40) => natural - 1,
+        (true, true) if p.chance(40) => 6 + extra as u32 - (kind == 6 || extra == 0) as u32,
+        (true, true) => p.below(natural as usize) as u32,
         (true, false) if p.chance(60) => natural.wrapping_add(p.pick(&[u32::MAX, 1])),
         (true, false) => p.pick(&[0, 1, 7, 9, 16, u32::MAX]),
     };
@@ -313,7 +315,8 @@ fn payload(p: &mut Prng, tag: u16, wish: Wish) -> Section {
     let mut s = Section::default();
     let has_text = matches!(tag, 2 | 3 | 6 | 9);
     let bad = wish.bad && has_text;
-    let count = how_many(p, wish, if tag == 1 { 5000 } else { 1200 }).max(bad as usize);
+    let some = how_many(p, wish, if tag == 1 { 5000 } else { 1200 }).max(bad as usize);
+    let count = if tag == 1 { some + p.below(6) } else { some };
     s.count(count, 2);
     if tag == 1 {
         line_table(p, &mut s, count);
@@ -371,7 +374,7 @@ pub fn debug(p: &mut Prng, wish: Wish) -> Section {
     let big = if wish.big { p.below(rows) } else { usize::MAX };
     let mut payloads = Vec::new();
     for i in 0..rows {
-        let known = p.pick(&[1, 2, 3, 4, 6, 9]);
+        let known = p.pick(&[1, 1, 1, 2, 3, 4, 6, 9]);
         let unknown = p.pick(&[0, 5, 7, 8, 10, 256, 257, 0xFFFF]);
         let with_text = p.pick(&[2, 3, 6, 9]);
         let tag: u16 = if i == bad && p.chance(80) {
