@@ -35,7 +35,8 @@ pub fn reply(file: &[u8]) -> String {
 fn first_difference(rust: &[&str], port: &[&str]) -> Option<String> {
     let length = rust.len().max(port.len());
     let at = (0..length).find(|i| rust.get(*i) != port.get(*i))?;
-    let show = |line: Option<&&str>| line.map_or("nothing".to_string(), |l| l.chars().take(160).collect());
+    let cut = |line: &str| -> String { line.chars().take(160).flat_map(char::escape_default).collect() };
+    let show = |line: Option<&&str>| line.map_or("nothing".to_string(), |l| cut(l));
     Some(format!("the Rust: {}; the port: {}", show(rust.get(at)), show(port.get(at))))
 }
 

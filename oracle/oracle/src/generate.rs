@@ -230,7 +230,8 @@ fn move_section(p: &mut Prng, file: &mut [u8]) {
     let end = file.len() as u32;
     let (offset, size) = (offset_of(file, section) as u32, size_of(file, section) as u32);
     let other = p.below(5);
-    let (offset, size) = match p.below(10) {
+    let inside = 256 + p.below(file.len() - 255) as u32;
+    let (offset, size) = match p.below(12) {
         0 => (p.pick(&[0, 1, 128, 254, 255]), size),
         1 => (256, size),
         2 => (end.wrapping_sub(size), size),
@@ -240,7 +241,10 @@ fn move_section(p: &mut Prng, file: &mut [u8]) {
         6 => (offset, end.saturating_sub(offset).wrapping_add(1)),
         7 => (offset_of(file, other) as u32, size_of(file, other) as u32),
         8 => (p.pick(&[0, 255, 256, end, end + 1]), 0),
-        _ => (256 + p.below(file.len() - 255) as u32, p.below(file.len()) as u32),
+        // offset and size that end inside, were their sum cut to 32 bits
+        9 => (offset, inside.wrapping_sub(offset)),
+        10 => (u32::MAX - 255 - p.below(300) as u32, p.below(600) as u32),
+        _ => (inside, p.below(file.len()) as u32),
     };
     place(file, section, offset, size);
 }
@@ -379,9 +383,15 @@ pub fn file(seed: u64, index: u64) -> Made {
     let none = [false; 5];
     let hash = some_hash(p);
     let (kind, bytes) = match p.below(100) {
-        0..=42 => {
+        0..=36 => {
             let plan = plan(p, none, big);
             ("valid", finish(p, plan, hash, 0))
+        }
+        37..=42 => {
+            let mut bad = none;
+            bad[DEBUG_SECTION] = true;
+            let plan = plan(p, bad, None);
+            ("bad text", finish(p, plan, Hashed::Right, 0))
         }
         43..=54 => {
             let bad = one_bad(p);

@@ -1,15 +1,18 @@
 //! The oracle: the Rust container reader against the port.
 //!
-//!     oracle compare N SEED lister|replier PROGRAM [DIR]   N files of a run on both sides; differing ones go to DIR
-//!     oracle survey N SEED                                 the Rust alone: what the files of a run exercise
-//!     oracle list | reply                                  the Rust's listing (and answers) of the file on standard input
-//!     oracle make SEED INDEX                               one file of a run, to standard output
-//!     oracle replies STORED                                the Rust's listings against stored ones
+//!     oracle compare N SEED WAY PROGRAM [DIR]  N files of a run on both sides; differing ones go to DIR.
+//!                                             WAY: lister or replier, with its PROGRAM; library, with any word
+//!     oracle survey N SEED                    the Rust alone: what the files of a run exercise
+//!     oracle list | reply                     the Rust's listing (and answers) of the file on standard input
+//!     oracle make SEED INDEX                  one file of a run, to standard output
+//!     oracle replies STORED                   the Rust's listings against stored ones
 
 mod answers;
 mod bytes;
 mod compare;
 mod generate;
+#[cfg(any(feature = "library", test))]
+mod library;
 mod listing;
 mod port;
 mod prng;
@@ -28,7 +31,7 @@ fn number(word: &str) -> u64 {
 
 fn usage(what: &str) -> ! {
     eprintln!("oracle: {what}");
-    eprintln!("oracle compare N SEED lister|replier PROGRAM [DIR] | survey N SEED | list | reply | make SEED INDEX | replies STORED");
+    eprintln!("oracle compare N SEED WAY PROGRAM [DIR] | survey N SEED | list | reply | make SEED INDEX | replies STORED");
     exit(2)
 }
 
@@ -45,6 +48,8 @@ fn compare(words: &[&str]) -> bool {
     let port = match *way {
         "lister" => Port::Lister(program.to_string()),
         "replier" => Port::Replier(program.to_string()),
+        #[cfg(feature = "library")]
+        "library" => Port::Library,
         _ => usage(&format!("no such way to the port: {way}")),
     };
     compare::run(number(count), number(seed), &port, rest.first().copied())

@@ -266,10 +266,13 @@ fn text(p: &mut Prng, bad: bool, most: usize) -> Vec<u8> {
         }
     }
     if bad {
+        text.truncate(most.saturating_sub(4));
+        while std::str::from_utf8(&text).is_err() {
+            text.pop();
+        }
         let piece = p.pick(&BAD);
         let at = if p.chance(40) { text.len() } else { 0 };
         text.splice(at..at, piece.iter().copied());
-        text.truncate(most);
     }
     text
 }
