@@ -4,7 +4,7 @@ use std::collections::BTreeMap;
 use std::fs;
 
 use crate::answers::{answer, is_sorted};
-use crate::bytes::from_hex;
+use crate::bytes::{from_hex, hex};
 use crate::generate::{self, Made};
 use crate::listing::listing;
 use crate::port::{self, Port};
@@ -189,5 +189,27 @@ pub fn replies(path: &str) -> bool {
         }
     }
     println!("{count} stored replies, {differ} differ");
+    differ == 0 && count > 0
+}
+
+/// The supplied hash against BLAKE3's published vectors: input length and digest, input byte i being i mod 251. The generator and
+/// the Rust hash with the same crate, so their agreement says nothing about it; this does. True if all agree.
+pub fn vectors(path: &str) -> bool {
+    let text = fs::read_to_string(path).expect("the published vectors");
+    let (mut count, mut differ) = (0, 0);
+    for line in text.lines().filter(|line| !line.starts_with('#')) {
+        let (length, digest) = line.split_once(' ').expect("a length and a digest");
+        let length: usize = length.parse().expect("a length");
+        let input: Vec<u8> = (0..length).map(|i| (i % 251) as u8).collect();
+        let mut in_parts = blake3::Hasher::new();
+        in_parts.update(&input[..length / 3]).update(&input[length / 3..]);
+        let whole = hex(blake3::hash(&input).as_bytes());
+        count += 1;
+        if whole != digest || hex(in_parts.finalize().as_bytes()) != digest {
+            differ += 1;
+            println!("vector of {length} bytes: {whole}, not {digest}");
+        }
+    }
+    println!("{count} published vectors, {differ} differ");
     differ == 0 && count > 0
 }

@@ -177,6 +177,32 @@ mod tests {
         assert!(text(&file, "get_str", &[0, 255, 2]).starts_with("not the numbers"));
     }
 
+    /// Each answer of the Rust has as many words as the pieces of its lookup.
+    #[test]
+    fn pieces_fit_the_answers() {
+        let words = |piece: &Piece| match piece {
+            Piece::Numbers(count) => *count,
+            Piece::Constant => 2,
+            _ => 1,
+        };
+        let mut seen = std::collections::BTreeSet::new();
+        for index in 0..300 {
+            let file = crate::generate::file(1, index).bytes;
+            let reading = crate::reading::read(&file);
+            for q in crate::questions::questions(&file, &reading, false) {
+                let line = crate::answers::answer(&file, &reading, &q);
+                let (_, said) = line.split_once(": ").expect("a colon");
+                if said.starts_with("refused") || said == "none" {
+                    continue;
+                }
+                let expected: usize = pieces(q.lookup).iter().map(words).sum();
+                assert_eq!(said.split(' ').count(), expected, "{line}");
+                seen.insert(q.lookup);
+            }
+        }
+        assert_eq!(seen.len(), LOOKUPS.len());
+    }
+
     #[test]
     fn every_lookup_has_a_number() {
         for (place, lookup) in LOOKUPS.iter().enumerate() {

@@ -6,6 +6,7 @@
 //!     oracle list | reply                     the Rust's listing (and answers) of the file on standard input
 //!     oracle make SEED INDEX                  one file of a run, to standard output
 //!     oracle replies STORED                   the Rust's listings against stored ones
+//!     oracle vectors PUBLISHED                the supplied hash against BLAKE3's published vectors
 
 mod answers;
 mod bytes;
@@ -31,7 +32,7 @@ fn number(word: &str) -> u64 {
 
 fn usage(what: &str) -> ! {
     eprintln!("oracle: {what}");
-    eprintln!("oracle compare N SEED WAY PROGRAM [DIR] | survey N SEED | list | reply | make SEED INDEX | replies STORED");
+    eprintln!("oracle compare N SEED WAY PROGRAM [DIR] | survey N SEED | list | reply | make SEED INDEX | replies STORED | vectors PUBLISHED");
     exit(2)
 }
 
@@ -79,6 +80,7 @@ fn main() {
             std::io::stdout().write_all(&made.bytes).is_ok()
         }
         ["survey", count, seed] => compare::survey(number(count), number(seed)),
+        ["vectors", published] => compare::vectors(published),
         ["replies", stored] => compare::replies(stored),
         ["compare", ref rest @ ..] => compare(rest),
         _ => usage("what is to be done?"),

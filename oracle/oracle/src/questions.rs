@@ -8,7 +8,6 @@ use crate::prng::Prng;
 use crate::reading::Reading;
 
 /// Every lookup, once. A library's number of a lookup is its place here.
-#[allow(dead_code)]
 pub const LOOKUPS: [&str; 35] = [
     "hash", "utf8", "masked_header", "header", "tasks", "task", "program", "types", "fb_type", "field", "array",
     "array_size", "user_fb", "constants", "constant", "get_i32", "get_u32", "get_i64", "get_u64", "get_f32", "get_f64",
@@ -56,7 +55,7 @@ struct Asking {
 
 impl Asking {
     fn ask(&mut self, lookup: &'static str, arguments: &[u32]) {
-        debug_assert!(LOOKUPS.contains(&lookup));
+        assert!(LOOKUPS.contains(&lookup), "{lookup} is not listed");
         self.questions.push(Question {
             lookup,
             arguments: arguments.to_vec(),
