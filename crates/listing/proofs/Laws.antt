@@ -20,6 +20,11 @@ pub laws : AllLaws
 unfolding load headerOf runtimeOf directoryOf le bytes contentFits readIn sectionIn isInside taskTable task program typesFound hasTypes typeTables fbType array userFb constants constant keptOf codeOf function debugFound debugOf debugHashFits debugTables rowsOf tableOf tagOf sizeOf kindOf debug.line digits numbers hexes each indexedFrom
 laws hash =
     record {
+      task-listed = refl;
+      program-listed = refl;
+      function-listed = refl;
+      line-listed = refl;
+      counts-listed = refl;
       mill-listed = refl;
       tiny-listed = refl;
       short-refused = refl;
@@ -27,5 +32,5 @@ laws hash =
       two-values = refl;
       types-listed = refl;
       nothing-kept = refl;
-      none-counted = refl;
+      zeros-counted = refl;
     }

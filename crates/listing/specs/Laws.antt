@@ -4,15 +4,18 @@ use mathlib.Core.List.{List, [], _∷_, _++_}
 use mathlib.Core.Option.{some}
 use mathlib.Core.Path.{_≡_}
 use Rattle.format.specs.Faults.{invalidTaskType, invalidArrayStride}
+use Rattle.format.specs.Tasks.{Task, Program}
 use Rattle.format.specs.Types.{TypeTables}
 use Rattle.format.specs.Constants.{string}
-use Rattle.format.specs.Debug.{noTables}
+use Rattle.format.specs.Code.{Function}
+use Rattle.format.specs.Debug.{Line, noTables}
+use Rattle.format.specs.Record.{DebugCounts}
 use Rattle.format.specs.Load.{load}
 use Rattle.format.specs.Examples.{mill, tiny}
 use Rattle.format.specs.Cases.{slots}
 use Rattle.text.specs.Text.{ascii}
-use Rattle.entry_lines.specs.Lines.{constantLine}
-use Rattle.listing.specs.Lines.{refusedLine}
+use Rattle.entry_lines.specs.Lines.{taskLine, programLine, constantLine, functionLine, lineLine}
+use Rattle.listing.specs.Lines.{debugLine, refusedLine}
 use Rattle.listing.specs.Listing.{typeLines, debugLines, listingOf}
 
 -- an FB type with two fields and one with none; two arrays, the second too large to have a size; a user FB
@@ -43,7 +46,52 @@ millText =
     ++ ascii "line 0 3 0 2 9\n"
     ++ ascii "end\n"
 
+-- entries of which no two fields are the same
+abbrev pub someTask : Task
+someTask =
+    record {
+      id = 1;
+      priority = 2;
+      kind = 0;
+      flags = 3;
+      interval = 4;
+      singleVariable = 5;
+      watchdog = 6;
+      inputImageOffset = 7;
+      outputImageOffset = 8;
+      reserved = 9 ∷ 9 ∷ 9 ∷ 9 ∷ [];
+    }
+
+abbrev pub someProgram : Program
+someProgram =
+    record {
+      instance = 1;
+      task = 2;
+      entryFunction = 3;
+      variableOffset = 4;
+      variableCount = 5;
+      fbInstanceOffset = 6;
+      fbInstanceCount = 7;
+      initFunction = 8;
+    }
+
+abbrev pub someFunction : Function
+someFunction = record { id = 1; offset = 2; size = 3; maxStackDepth = 4; locals = 5; parameters = 6 }
+
+abbrev pub someLine : Line
+someLine = record { function = 1; offset = 2; file = 3; line = 4; column = 5 }
+
+abbrev pub someCounts : DebugCounts
+someCounts = record { lines = 1; variables = 2; functions = 3; strings = 4; files = 6; enumerations = 9 }
+
 pub record Laws (hash : List ℕ → List ℕ) : Type 0 where
+  -- fields in file order, without reserved ones
+  pub task-listed : taskLine someTask ≡ ascii "task 1 2 0 3 4 5 6 7 8\n"
+  pub program-listed : programLine someProgram ≡ ascii "program 1 2 3 4 5 6 7 8\n"
+  pub function-listed : functionLine someFunction ≡ ascii "function 1 2 3 4 5 6\n"
+  pub line-listed : lineLine someLine ≡ ascii "line 1 2 3 4 5\n"
+  -- the counts of tags 1, 2, 3, 4, 6, 9
+  pub counts-listed : debugLine (some someCounts) ≡ ascii "debug 1 2 3 4 6 9\n"
   pub mill-listed : listingOf (load hash mill) ≡ millText
   -- a file with no tasks, types, constants, functions or debug
   pub tiny-listed : listingOf (load hash tiny) ≡ ascii "container 4 0 0\ndebug none\nend\n"
@@ -54,7 +102,7 @@ pub record Laws (hash : List ℕ → List ℕ) : Type 0 where
   -- a string of no bytes
   pub nothing-kept : constantLine 5 (record { kind = 7; kept = string [] }) ≡ ascii "constant 5 7 -\n"
   -- debug with six empty tables
-  pub none-counted : debugLines (some noTables) ≡ ascii "debug 0 0 0 0 0 0\n"
+  pub zeros-counted : debugLines (some noTables) ≡ ascii "debug 0 0 0 0 0 0\n"
 
 -- for any hash
 abbrev pub AllLaws : Type 0

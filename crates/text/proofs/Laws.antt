@@ -10,7 +10,7 @@ use native.Mathlib.Nat.{pow-succ'}
 use lib.Dec.{ltb}
 use lib.ListN.{length, getD, List·getD-append, length-append}
 use borrow.Author.Tests.{ltb-true, ltb-false, le-leb}
-use Rattle.text.specs.Text.{digits, decimal}
+use Rattle.text.specs.Text.{digits, decimal, hexes}
 use Rattle.text.specs.Laws.{isDigit, readBehind, readDecimal, Laws}
 use Rattle.text.proofs.Putting.{digits-one, digits-more, hexes-append, hexes-length}
 
@@ -73,11 +73,14 @@ no-zero-in-front true n h t e = absurd (starts 20 n (ltb-true 0 n t) (omega arit
 no-zero-in-front false n h t e = omega (arith, ltb-false 0 n t)
 
 pub laws : Laws
+unfolding digits hexes
 laws =
     record {
       decimal-back = λ n h. back 20 n (omega arith) (omega arith);
       no-zero-in-front = λ n h. no-zero-in-front (ltb 0 n) n h refl;
+      zero = refl;
       hex-digits = refl;
+      high-first = refl;
       hex-length = hexes-length;
       hex-parts = hexes-append;
     }

@@ -26,10 +26,13 @@ pub record Laws : Type 0 where
   pub decimal-back : (n : ℕ) → n < 2 ^ 64 → readDecimal (decimal n) ≡ some n
   -- "0" is the first digit of 0 alone
   pub no-zero-in-front : (n : ℕ) → n < 2 ^ 64 → getD (decimal n) 0 0 ≡ code "0" → n ≡ 0
+  -- and 0 has that digit
+  pub zero : decimal 0 ≡ ascii "0"
   -- the digits of 0 to 15
   pub hex-digits : map hexDigit (0 ∷ 1 ∷ 2 ∷ 3 ∷ 4 ∷ 5 ∷ 6 ∷ 7 ∷ 8 ∷ 9 ∷ 10 ∷ 11 ∷ 12 ∷ 13 ∷ 14 ∷ 15 ∷ [])
       ≡ ascii "0123456789abcdef"
-  -- two digits for each byte
+  -- two digits for each byte, the high one first
+  pub high-first : hexes (0x0E ∷ 0x6B ∷ 0xF0 ∷ []) ≡ ascii "0e6bf0"
   pub hex-length : (bs : List ℕ) → length (hexes bs) ≡ 2 * length bs
   -- bytes can be put in parts
   pub hex-parts : (xs ys : List ℕ) → hexes (xs ++ ys) ≡ hexes xs ++ hexes ys
