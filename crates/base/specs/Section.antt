@@ -6,7 +6,7 @@ use lib.Dec.{leb}
 use lib.ListN.{length}
 use Rattle.reading.specs.Reader.{Reader}
 use Rattle.reading.specs.Answer.{Got, refused, found, _>>_, need}
-use Rattle.reading.specs.Places.{Next, faulty, stepOf}
+use Rattle.reading.specs.Places.{Way, stopsBy, onTo, Next, faulty, stepOf}
 use Rattle.reading.specs.declared.Table.{Table}
 use Rattle.format.specs.Faults.{tooLong, sectionSizeMismatch}
 use Rattle.format.specs.Parts.{limit, Place, cut, isInside}
@@ -15,6 +15,8 @@ use Rattle.base.specs.declared.section.Part.{Part}
 use Rattle.base.specs.declared.section.Section.{Section}
 use Rattle.base.specs.declared.section.StartAnswer.{StartAnswer}
 use Rattle.base.specs.declared.section.StartAnswer.the-variants as start
+use Rattle.base.specs.declared.section.Walk.{Walk}
+use Rattle.base.specs.declared.section.Walk.the-variants as walk
 use Rattle.base.specs.declared.section.Checked.{Checked}
 use Rattle.base.specs.declared.section.Checked.the-variants as checked
 use Rattle.base.specs.declared.section.PartAnswer.{PartAnswer}
@@ -56,6 +58,11 @@ stepIn f p r t = stepBy f (sectionPart f p) r t
 abbrev pub startFrom : StartAnswer → Got Table
 startFrom (start.Refused e) = refused (faultOf e)
 startFrom (start.Start t) = found t
+
+-- where reading goes on behind what was passed over
+abbrev pub wayFrom : Walk → Way
+wayFrom (walk.Refused e) = stopsBy (faultOf e)
+wayFrom (walk.At m) = onTo m
 
 -- whether a section reads: its refusal, or nothing more
 abbrev pub checkedFrom : Checked → Got (Unit {0})

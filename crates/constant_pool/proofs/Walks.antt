@@ -1,15 +1,12 @@
--- A walk over the constants: the law of each step, and that the steps from the start on give the constants.
+-- A walk over the constants: the steps from the start on give the constants.
 use mathlib.Core.Path.{_≡_, refl, sym, ap, _∙_}
 use mathlib.Core.List.{List}
-use Prim.Native.Nat.{ℕ, _-_, _≤_}
-use native.Mathlib.Omega.{arith}
-use borrow.Author.Tests.{eq-eqb, ne-eqb}
+use Prim.Native.Nat.{ℕ}
 use lib.Dec.{leb}
-use lib.ListN.{length, drop, length-drop}
-use Rattle.reading.specs.Fault.{Fault}
+use lib.ListN.{length}
 use Rattle.reading.specs.Reader.{Read, fault, got, Reader, _>>=_, left, u16}
 use Rattle.reading.specs.Answer.{Got, refused, found, itemOf}
-use Rattle.reading.specs.Places.{ends, faulty, entry, stepOf, walked}
+use Rattle.reading.specs.Places.{entry, walked}
 use Rattle.reading.specs.declared.Table.{Table}
 use Rattle.reading.proofs.Reading.{both}
 use Rattle.reading.proofs.Width.{width-number}
@@ -24,22 +21,6 @@ use Rattle.base.specs.Section.{stepBy, sectionPart}
 use Rattle.base.proofs.Sections.{section-refused, section-found}
 use Rattle.constant_pool.specs.Lookups.{poolAt, startAt}
 use Rattle.constant_pool.specs.Laws.{Walk, Laws}
-
-module _ {A : Type 0} (r : Reader A) (s : List ℕ) (t : Table) where
-  pub step-end : t .count ≡ 0 → ends ≡ stepOf r s t
-  unfolding stepOf
-  step-end h = rw (eq-eqb (t .count) 0 h)
-
-  pub step-stop : (f : Fault) → (t .count ≡ 0 → ⊥) → r (drop (t .at) s) ≡ fault f → faulty f ≡ stepOf r s t
-  unfolding stepOf
-  step-stop f h e = rw (ne-eqb (t .count) 0 h, e)
-
-  pub step-entry : (a : A) (m : ℕ) → (t .count ≡ 0 → ⊥) → m ≤ length s → r (drop (t .at) s) ≡ got a (drop m s)
-      → entry a (record { at = m; count = t .count - 1 }) ≡ stepOf r s t
-  unfolding stepOf
-  step-entry a m h l e =
-      let d : length s - length (drop m s) ≡ m = omega (arith, length-drop m s) in
-      rw (ne-eqb (t .count) 0 h, e, d)
 
 -- what an entry leaves of the section is left of it, however strings are kept
 module _ (whole : List ℕ) where

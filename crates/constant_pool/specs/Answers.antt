@@ -6,7 +6,7 @@ use lib.IntN.{ℤ}
 use Rattle.reading.specs.Numbers.{bytesLe}
 use Rattle.reading.specs.Reader.{fault, got}
 use Rattle.reading.specs.Answer.{Got, refused, found}
-use Rattle.reading.specs.Places.{Step, stops, item, Way, stopsBy, onTo, Holds, Next, ends, faulty, entry}
+use Rattle.reading.specs.Places.{Step, stops, item, Holds, Next, ends, faulty, entry}
 use Rattle.reading.specs.declared.Table.{Table}
 use Rattle.format.specs.Parts.{Place, byPlace}
 use Rattle.format.specs.Constants as format
@@ -16,8 +16,6 @@ use Rattle.base.specs.Small.{constTypeNumber, byteWidth}
 use Rattle.base.specs.Section.{partIn}
 use Rattle.base.specs.declared.section.StartAnswer.{StartAnswer}
 use Rattle.base.specs.declared.section.StartAnswer.the-variants as start
-use Rattle.base.specs.declared.section.Walk.{Walk}
-use Rattle.base.specs.declared.section.Walk.the-variants as walk
 use Rattle.constant_pool.specs.Lookups.{placeOf, constantOver}
 use Rattle.constant_pool.specs.declared.Kept.{Kept}
 use Rattle.constant_pool.specs.declared.Kept.the-variants as kept
@@ -62,11 +60,6 @@ stepFrom (step.Entry c m) = item (entryIn c) m
 abbrev pub StepEnds : ℕ → ConstStep → Type 0
 StepEnds most (step.Refused e) = Unit {0}
 StepEnds most (step.Entry c m) = KeptEnds most (c .kept)
-
--- entries passed over
-abbrev pub wayFrom : Walk → Way
-wayFrom (walk.Refused e) = stopsBy (faultOf e)
-wayFrom (walk.At m) = onTo m
 
 -- the entries of the section `s`, behind the count
 pub record Readable (base : ℕ) (s : List ℕ) (t : Table) : Type 0 where

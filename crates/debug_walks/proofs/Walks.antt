@@ -8,7 +8,7 @@ use lib.Dec.{eqb}
 use lib.ListN.{length, drop}
 use Rattle.reading.specs.Reader.{Read, fault, got, Reader, many, counted}
 use Rattle.reading.specs.Answer.{Got, found, _>>=_, indexed, itemOf}
-use Rattle.reading.specs.Places.{Next, ends, faulty, entry, nextOf, stepOf, onNext, walked, leftOf, Holds}
+use Rattle.reading.specs.Places.{Next, ends, faulty, entry, nextOf, stepOf, onNext, driven, walked, leftOf, Holds}
 use Rattle.reading.specs.declared.Table.{Table}
 use Rattle.reading.proofs.Reading.{both}
 use Rattle.reading.proofs.Left.{LeftOf, left-at, Stays, stays-local, walk-is-table}
@@ -24,7 +24,7 @@ use Rattle.debug_text.proofs.Texts.{name-ends}
 use Rattle.debug_entries.proofs.Giving as entries
 use Rattle.debug_section.specs.Lookups.{debugAt}
 use Rattle.debug_walks.specs.Steps.{noDebugStep, stepBy, stepAt, entryOf, onEntry}
-use Rattle.debug_walks.specs.Laws.{driven, Gives, Walks, Laws}
+use Rattle.debug_walks.specs.Laws.{Gives, Walks, Laws}
 use Rattle.debug_section.proofs.Parts.{moved, tables-found}
 
 module _ {A : Type 0} where

@@ -3,7 +3,7 @@ use Prim.Native.Nat.{ℕ, zero, suc, _≤_}
 use mathlib.Core.List.{List, [], map}
 use mathlib.Core.Path.{_≡_}
 use Rattle.reading.specs.Answer.{Got, found, indexed}
-use Rattle.reading.specs.Places.{Next, onNext}
+use Rattle.reading.specs.Places.{Next, driven}
 use Rattle.reading.specs.declared.Table.{Table}
 use Rattle.format.specs.Faults.{noEntry}
 use Rattle.format.specs.Parts.{Place, byPlace}
@@ -11,11 +11,6 @@ use Rattle.format.specs.Debug.{line, name, variable, functionName, stringLayout
 use Rattle.debug_tables.specs.declared.DebugTables.{DebugTables}
 use Rattle.debug_section.specs.Lookups.{debugAt, startsAt}
 use Rattle.debug_walks.specs.Steps.{stepAt, entryOf, enumerationStep}
-
--- the entries that at most `n` steps give, one behind the other
-abbrev pub driven : {A : Type 0} → (Table → Next A) → ℕ → Table → Got (List A)
-driven step zero t = found []
-driven step (suc n) t = onNext (step t) (driven step n)
 
 -- from a table on, as many steps as it has entries give them, and more steps give no more
 abbrev pub Gives : {A : Type 0} → (Table → Next A) → Table → List A → Type 0

@@ -13,10 +13,9 @@ use Rattle.reading.specs.Fault.{shortInput}
 use Rattle.reading.specs.Numbers.{leAt}
 use Rattle.reading.specs.Reader.{Read, fault, got, next, give, many}
 use Rattle.reading.specs.Answer.{Got, refused, found, _>>=_, itemOf}
-use Rattle.reading.specs.Places.{ends, faulty, entry, stepOf}
-use Rattle.reading.specs.declared.Table.{Table}
+use Rattle.reading.specs.Places.{entry}
 use Rattle.reading.proofs.Reading.{number-at}
-use Rattle.reading.proofs.Width.{Fixed, fixed-give, fixed-bind, fixed-number, fixed-many, fixed-width, needs-at}
+use Rattle.reading.proofs.Width.{Fixed, fixed-give, fixed-bind, fixed-number, fixed-many, fixed-width}
 use Rattle.reading.proofs.Tables.{at-width, at-picked, index-out}
 use Rattle.format.specs.Faults.{noEntry}
 use Rattle.format.specs.Debug.{Line, line}
@@ -116,22 +115,3 @@ module _ (s : List ℕ) (at n : ℕ) where
 
   pub short-told : {r : Bool} → r ≡ linesFit s at n → r ≡ false → length s - at < 10 * n
   short-told e t = leb-false _ _ (sym e ∙ t)
-
--- one step of a walk
-module _ (s : List ℕ) (t : Table) where
-  pub step-ends : t .count ≡ 0 → ends ≡ stepOf line s t
-  unfolding stepOf
-  step-ends z = rw (eq-eqb (t .count) 0 z)
-
-  module _ (z : t .count ≡ 0 → ⊥) where
-    pub step-short : length s - t .at < 10 → faulty shortInput ≡ stepOf line s t
-    unfolding stepOf
-    step-short h = rw (ne-eqb (t .count) 0 z, needs-at (line-fixed .short) s (t .at) h)
-
-    pub step-entry : (e : Line) → t .at + 10 ≤ length s → line (drop (t .at) s) ≡ got e (drop (t .at + 10) s)
-        → entry e (record { at = t .at + 10; count = t .count - 1 }) ≡ stepOf line s t
-    unfolding stepOf
-    step-entry e h r =
-        let d = length-drop (t .at + 10) s in
-        let p : length s - length (drop (t .at + 10) s) ≡ t .at + 10 = omega arith in
-        rw (ne-eqb (t .count) 0 z, r, p)

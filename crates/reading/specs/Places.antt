@@ -53,12 +53,15 @@ nextOf s t (got a rest) = entry a (record { at = length s - length rest; count =
 unfoldable pub stepOf : {A : Type 0} → Reader A → List ℕ → Table → Next A
 stepOf r s t = cond (eqb (t .count) 0) ends (nextOf s t (r (drop (t .at) s)))
 
--- the entries that at most `n` steps give, one behind the other
 abbrev pub onNext : {A : Type 0} → Next A → (Table → Got (List A)) → Got (List A)
 onNext ends go = found []
 onNext (faulty f) go = refused f
 onNext (entry a u) go = go u >>= λ xs. found (a ∷ xs)
 
+-- the entries that at most `n` steps give, one behind the other
+abbrev pub driven : {A : Type 0} → (Table → Next A) → ℕ → Table → Got (List A)
+driven step zero t = found []
+driven step (suc n) t = onNext (step t) (driven step n)
+
 abbrev pub walked : {A : Type 0} → ℕ → Reader A → List ℕ → Table → Got (List A)
-walked zero r s t = found []
-walked (suc n) r s t = onNext (stepOf r s t) (walked n r s)
+walked n r s t = driven (stepOf r s) n t

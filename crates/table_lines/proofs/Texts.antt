@@ -10,7 +10,7 @@ use borrow.Author.Tests.{leb-true}
 use Rattle.reading.specs.Fault.{Fault}
 use Rattle.reading.specs.Reader.{Reader}
 use Rattle.reading.specs.Answer.{Got, refused, found, _>>=_, need, itemOf}
-use Rattle.reading.specs.Places.{Next, ends, faulty, entry, stepOf, onNext, walked}
+use Rattle.reading.specs.Places.{Next, ends, faulty, entry, stepOf, onNext, walked, driven}
 use Rattle.reading.specs.declared.Table.{Table}
 use Rattle.reading.proofs.Parts.{length-part}
 use Rattle.format.specs.Faults.{tooLong}
@@ -21,7 +21,6 @@ use Rattle.format.proofs.Answers.{never, same-found, steps}
 use Rattle.base.specs.Section.{sectionPart, stepBy, stepIn}
 use Rattle.base.proofs.Sections.{section-refused, section-found}
 use Rattle.listing.specs.Listing.{each, indexedFrom}
-use Rattle.debug_walks.specs.Laws.{driven}
 use Rattle.debug_walks.proofs.Walks.{step-count}
 use Rattle.table_lines.specs.Walks.{onStep, walkText}
 use Rattle.table_lines.specs.Tables.{textOf}

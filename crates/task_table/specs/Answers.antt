@@ -1,13 +1,11 @@
 -- What the code's entries and answers mean.
 use Rattle.reading.specs.Numbers.{bytesLe}
 use Rattle.reading.specs.Answer.{Got, refused, found}
-use Rattle.reading.specs.Places.{Step, stops, item, Way, stopsBy, onTo, Next, ends, faulty, entry}
+use Rattle.reading.specs.Places.{Step, stops, item, Next, ends, faulty, entry}
 use Rattle.format.specs.Tasks.{Task, Program}
 use Rattle.format.specs.Record as kept
 use Rattle.base.specs.Error.{faultOf}
 use Rattle.base.specs.Small.{taskTypeNumber}
-use Rattle.base.specs.declared.section.Walk.{Walk}
-use Rattle.base.specs.declared.section.Walk.the-variants as walk
 use Rattle.task_table.specs.declared.TaskEntry.{TaskEntry}
 use Rattle.task_table.specs.declared.TaskStep.{TaskStep}
 use Rattle.task_table.specs.declared.TaskStep.the-variants as step
@@ -88,7 +86,3 @@ countsFrom (tableAnswer.Refused e) = refused (faultOf e)
 countsFrom (tableAnswer.Counts c) = found (countsIn c)
 
 -- Items passed over
-
-abbrev pub wayOf : Walk → Way
-wayOf (walk.Refused e) = stopsBy (faultOf e)
-wayOf (walk.At m) = onTo m

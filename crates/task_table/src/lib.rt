@@ -7,8 +7,8 @@ ghost use Rattle.reading.specs.Reader.{got, many};
 ghost use Rattle.reading.specs.Places.{Reads, Goes, stepOf};
 ghost use Rattle.format.specs.Tasks.{task, program};
 ghost use Rattle.base.specs.Small.{taskTypeNumber};
-ghost use Rattle.base.specs.Section.{placeIn, startFrom};
-ghost use Rattle.task_table.specs.Answers.{taskIn, taskStep, taskFrom, taskNextFrom, programIn, programFrom, programNextFrom, countsIn, countsFrom, wayOf};
+ghost use Rattle.base.specs.Section.{placeIn, startFrom, wayFrom};
+ghost use Rattle.task_table.specs.Answers.{taskIn, taskStep, taskFrom, taskNextFrom, programIn, programFrom, programNextFrom, countsIn, countsFrom};
 ghost use Rattle.task_table.specs.Lookups.{countsOf, taskEntries, programEntries, tasksOf, programsOf, taskInside, programInside, taskAt, programAt, tasksAt, programsAt, nextTaskAt, nextProgramAt};
 ghost use Rattle.task_table.specs.Laws.{Laws};
 use base::error::ContainerError;
@@ -143,7 +143,7 @@ fn read_task(s: &[u8], at: usize) -> TaskStep
 // A walk over the `n` tasks from `at` on.
 fn skip_tasks(s: &[u8], at: usize, n: usize) -> Walk
     requires { ⌜ at ≤ length (now s) ⌝ }
-    ensures { λ r. ⌜ Goes (many n task) (now (s .entry)) at (wayOf r) ⌝ }
+    ensures { λ r. ⌜ Goes (many n task) (now (s .entry)) at (wayFrom r) ⌝ }
 {
     let mut p = at;
     let mut i = 0;

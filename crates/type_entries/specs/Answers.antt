@@ -5,15 +5,13 @@ use mathlib.Core.Path.{_≡_}
 use lib.ListN.{length, drop}
 use Rattle.reading.specs.Reader.{Reader, fault, got}
 use Rattle.reading.specs.Answer.{Got, refused, found, need}
-use Rattle.reading.specs.Places.{Step, stops, item, Way, stopsBy, onTo}
+use Rattle.reading.specs.Places.{Step, stops, item}
 use Rattle.reading.specs.declared.Table.{Table}
 use Rattle.format.specs.Faults.{invalidArrayStride}
 use Rattle.format.specs.Types.{Field, fbType, Array, strideFits, UserFb}
 use Rattle.format.specs.Lookups.{FbTypeHead}
 use Rattle.base.specs.Error.{faultOf}
 use Rattle.base.specs.Small.{fieldTypeNumber}
-use Rattle.base.specs.declared.section.Walk.{Walk}
-use Rattle.base.specs.declared.section.Walk.the-variants as walk
 use Rattle.type_entries.specs.declared.FieldEntry.{FieldEntry}
 use Rattle.type_entries.specs.declared.FieldStep.{FieldStep}
 use Rattle.type_entries.specs.declared.FieldStep.the-variants as field-step
@@ -33,10 +31,6 @@ use Rattle.type_entries.specs.declared.TableStep.the-variants as table-s
 use Rattle.type_entries.specs.declared.Tables.{Tables}
 use Rattle.type_entries.specs.declared.TablesAnswer.{TablesAnswer}
 use Rattle.type_entries.specs.declared.TablesAnswer.the-variants as tables-answer
-
-abbrev pub wayFrom : Walk → Way
-wayFrom (walk.Refused e) = stopsBy (faultOf e)
-wayFrom (walk.At m) = onTo m
 
 -- Fields
 

@@ -7,8 +7,9 @@ use Rattle.reading.proofs.Passing.{goes-told, reads-told}
 use Rattle.reading.proofs.Tables.{holds-walked, holds-stops, holds-out, at-picked, at-reads}
 use Rattle.base.specs.Error.{faultOf}
 use Rattle.constant_pool.specs.Lookups.{constantOver}
-use Rattle.constant_pool.specs.Answers.{stepFrom, StepEnds, wayFrom, TableAs}
+use Rattle.constant_pool.specs.Answers.{stepFrom, StepEnds, TableAs}
 use Rattle.constant_pool.proofs.Pool.{find-refused, find-as}
+use Rattle.base.specs.Section.{wayFrom}
 use borrow.Author.Needs.{needs}
 use Rattle.constant_pool.proofs.find.Statement.{statement}
 use Rattle.constant_pool.proofs.find.Tie as tie

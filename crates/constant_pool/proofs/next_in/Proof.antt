@@ -3,27 +3,25 @@ use mathlib.Core.Path.{ap, subst}
 use native.Mathlib.Omega.{arith}
 use lib.ListN.{drop, length-drop}
 use denote.Ref.{now}
-use Rattle.reading.specs.Fault.{shortInput}
 use Rattle.reading.proofs.Passing.{reads-told}
 use Rattle.format.specs.Parts.{byPlace}
-use Rattle.base.specs.Error.{faultOf}
+use Rattle.base.proofs.FileLookups.{step-ends, step-stops, step-entry}
 use Rattle.constant_pool.specs.Lookups.{placeOf, constantOver}
 use Rattle.constant_pool.specs.Answers.{stepFrom, StepEnds}
 use Rattle.constant_pool.proofs.Entries.{constant-short}
-use Rattle.constant_pool.proofs.Walks.{step-end, step-stop, step-entry}
 use borrow.Author.Needs.{needs}
 use Rattle.constant_pool.proofs.next_in.Statement.{statement}
 use Rattle.constant_pool.proofs.next_in.Tie as tie
 
 returns : tie.Need-returns
-returns c = let a = c .before .before .args in (step-end (constantOver (a .base) (now (a .s))) (now (a .s)) (a .t) (c .if1 .taken), tt)
+returns c = let a = c .before .before .args in (step-ends (constantOver (a .base) (now (a .s))) (now (a .s)) (a .t) (c .if1 .taken), tt)
 
 returns-2 : tie.Need-returns-2
 returns-2 c =
     let a = c .before .before .before .args in
     let s = now (a .s) in
     let l = length-drop (a .t .at) s in
-    (step-stop (constantOver (a .base) s) s (a .t) shortInput (c .before .if1 .left) (constant-short (byPlace (placeOf (a .base) s)) (drop (a .t .at) s) (omega arith)), tt)
+    (step-stops (constantOver (a .base) s) s (a .t) (c .before .if1 .left) (constant-short (byPlace (placeOf (a .base) s)) (drop (a .t .at) s) (omega arith)), tt)
 
 returns-3 : tie.Need-returns-3
 returns-3 c =
@@ -31,7 +29,7 @@ returns-3 c =
     let s = now (a .s) in
     let r = constantOver (a .base) s in
     let v = c .before .e .given in
-    (step-stop r s (a .t) (faultOf (v .0 .0)) (c .before .before .before .before .before .if1 .left) (reads-told r s (a .t .at) (ap stepFrom (v .1)) (c .before .before .before .read-entry .ensures .0)), tt)
+    (step-stops r s (a .t) (c .before .before .before .before .before .if1 .left) (reads-told r s (a .t .at) (ap stepFrom (v .1)) (c .before .before .before .read-entry .ensures .0)), tt)
 
 returns-4 : tie.Need-returns-4
 returns-4 c =
@@ -40,7 +38,7 @@ returns-4 c =
     let r = constantOver (a .base) s in
     let v = c .before .c .given in
     let g = reads-told r s (a .t .at) (ap stepFrom (v .1)) (c .before .before .before .read-entry .ensures .0) in
-    (step-entry r s (a .t) _ (v .0 .1 .0) (c .before .before .before .before .before .if1 .left) (g .0) (g .1), subst (StepEnds _) (v .1) (c .before .before .before .read-entry .ensures .1))
+    (step-entry r s (a .t) (c .before .before .before .before .before .if1 .left) (g .0) (g .1), subst (StepEnds _) (v .1) (c .before .before .before .read-entry .ensures .1))
 
 pub next-in-spec : {M : Type 1} → statement M
 next-in-spec =

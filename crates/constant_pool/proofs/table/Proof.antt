@@ -7,7 +7,7 @@ use Rattle.reading.specs.Reader.{many}
 use Rattle.reading.proofs.Passing.{counted-short, counted-as, goes-told}
 use Rattle.format.specs.Constants.{constants}
 use Rattle.constant_pool.specs.Lookups.{constantOver}
-use Rattle.constant_pool.specs.Answers.{wayFrom}
+use Rattle.base.specs.Section.{wayFrom}
 use borrow.Author.Needs.{needs}
 use Rattle.constant_pool.proofs.table.Statement.{statement}
 use Rattle.constant_pool.proofs.table.Tie as tie

@@ -6,8 +6,8 @@ use denote.Ref.{now}
 use Rattle.reading.specs.Reader.{many}
 use Rattle.reading.proofs.Passing.{goes-told, counted-short, counted-as}
 use Rattle.format.specs.Types.{array}
-use Rattle.type_entries.specs.Answers.{wayFrom}
 use Rattle.type_entries.proofs.Sizes.{table-is}
+use Rattle.base.specs.Section.{wayFrom}
 use borrow.Author.Needs.{needs}
 use Rattle.type_entries.proofs.array_table.Statement.{statement}
 use Rattle.type_entries.proofs.array_table.Tie as tie

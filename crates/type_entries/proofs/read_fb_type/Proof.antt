@@ -9,8 +9,8 @@ use Rattle.reading.proofs.Tables.{many-length}
 use Rattle.reading.proofs.Width.{needs-at}
 use Rattle.format.specs.Types.{field}
 use Rattle.base.specs.Error.{faultOf}
-use Rattle.type_entries.specs.Answers.{wayFrom}
 use Rattle.type_entries.proofs.Entries.{fb-type-needs, fb-type-stop, fb-type-whole}
+use Rattle.base.specs.Section.{wayFrom}
 use borrow.Author.Needs.{needs}
 use Rattle.type_entries.proofs.read_fb_type.Statement.{statement}
 use Rattle.type_entries.proofs.read_fb_type.Tie as tie

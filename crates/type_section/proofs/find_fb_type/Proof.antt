@@ -10,9 +10,9 @@ use Rattle.format.specs.Faults.{noEntry}
 use Rattle.format.specs.Types.{fbType, typeTables}
 use Rattle.base.specs.Error.{faultOf}
 use Rattle.type_entries.specs.Starts.{startsOf}
-use Rattle.type_entries.specs.Answers.{wayFrom}
 use Rattle.type_entries.proofs.Sizes.{fields-left}
 use Rattle.type_section.proofs.Finding.{refused-then, fields-hold, fb-types-within, fb-type-out, fb-type-passed, fb-type-reads, fb-type-found}
+use Rattle.base.specs.Section.{wayFrom}
 use borrow.Author.Needs.{needs}
 use Rattle.type_section.proofs.find_fb_type.Statement.{statement}
 use Rattle.type_section.proofs.find_fb_type.Tie as tie
