@@ -79,12 +79,11 @@ read-at-on f p m r q h = go (leb (length f) limit)
     go true = read-on f p m r q h
     go false = refl
 
-constants-on : (f : List ℕ) (r : Container) → constantsIn (λ p. byBytes) f r ≡ (constantsIn byPlace f r >>= λ cs. found (map (onConstant (cut f)) cs))
-constants-on f r =
-    let p = r .header .directory .constants in
+pub constants-at : (f : List ℕ) (p : Place) → readAt f p (constants byBytes) ≡ (readAt f p (constants (byPlace p)) >>= λ cs. found (map (onConstant (cut f)) cs))
+constants-at f p =
     read-at-on f p (map (onConstant (cut f))) (constants byBytes) (constants (byPlace p)) (λ h. same-constants (cut f p) byBytes (byPlace p) (cut f) (placed f p h))
 
-debug-on : (f : List ℕ) (r : Container) → debugIn (λ p. byBytes) f r ≡ (debugIn byPlace f r >>= λ t. found (onTables (cut f) t))
+pub debug-on : (f : List ℕ) (r : Container) → debugIn (λ p. byBytes) f r ≡ (debugIn byPlace f r >>= λ t. found (onTables (cut f) t))
 unfolding debugIn
 debug-on f r = go (leb (length f) limit) (r .debug)
   where
@@ -284,6 +283,6 @@ places-hold f r =
     let p = r .header .directory .code in
     record {
       run = run-answers f (byPlace p) (tasksIn f r) (typesIn f r) (constantsIn byPlace f r) (codeIn f r) (code-on f p (r .header .runtime .functions))
-          ∙ rw (constants-on f r);
+          ∙ rw (constants-at f (r .header .directory .constants));
       debug = debug-answers f (debugIn byPlace f r) ∙ rw (debug-on f r);
     }

@@ -1,0 +1,4 @@
+pub mod Walking
+pub mod Texts
+pub mod Counts
+pub mod Starts
