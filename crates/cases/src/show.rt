@@ -1,9 +1,11 @@
 // What is printed of an answer: a case's name, and the answer behind it.
 use base::error::ContainerError;
 use container::ContainerAnswer;
+use container::MaybeDebug;
 use container::MaybeTypes;
 use libc::STDOUT_FILENO;
-use record::Container;
+ghost use Prim.Native.Nat.{_≤_};
+ghost use lib.ListN.{length};
 
 pub fn word(text: &[u8]) {
     io::write_all(STDOUT_FILENO, text);
@@ -23,12 +25,19 @@ pub fn end() {
     word(b"\n");
 }
 
+// The first n bytes of a text.
+fn start(text: &[u8], n: usize)
+    requires { ⌜ n ≤ length (now text) ⌝ }
+{
+    word(&text[..n]);
+}
+
 // A refusal: the lister's line.
 pub fn refused(e: ContainerError) {
     let mut line = [0u8; 200];
     let n = listing::put_refused(&mut line, 0, e);
     word(b" ");
-    word(&line[..n]);
+    start(&line, n);
 }
 
 // A case whose answer is a number.
@@ -37,8 +46,7 @@ pub fn value(n: u64) {
     end();
 }
 
-fn types(c: Container) {
-    let types = c.types;
+fn types(types: MaybeTypes) {
     match types {
         MaybeTypes::None => word(b", no types"),
         MaybeTypes::Some(t) => {
@@ -50,6 +58,14 @@ fn types(c: Container) {
     }
 }
 
+// The lister's debug line.
+fn debug(debug: MaybeDebug) {
+    let mut line = [0u8; 200];
+    let n = listing::put_debug(&mut line, 0, debug);
+    word(b", ");
+    start(&line, n);
+}
+
 // How a file loads: its refusal, or which counts its types and debug have.
 pub fn load(case: &[u8], file: &[u8]) {
     name(case);
@@ -57,11 +73,15 @@ pub fn load(case: &[u8], file: &[u8]) {
         ContainerAnswer::Refused(e) => refused(e),
         ContainerAnswer::Container(c) => {
             word(b" loaded");
-            types(c);
-            word(b", ");
-            let mut line = [0u8; 200];
-            let n = listing::put_debug(&mut line, 0, c.debug);
-            word(&line[..n]);
+            let has_types = c.types;
+            types(has_types);
+            let has_debug = c.debug;
+            debug(has_debug);
         }
     }
+}
+
+// The same of a file as long as M.
+pub fn mill(case: &[u8], file: [u8; 405]) {
+    load(case, &file);
 }
