@@ -1,0 +1,87 @@
+// What is printed of an answer: a case's name, and the answer behind it.
+use base::error::ContainerError;
+use container::ContainerAnswer;
+use container::MaybeDebug;
+use container::MaybeTypes;
+use libc::STDOUT_FILENO;
+ghost use Prim.Native.Nat.{_≤_};
+ghost use lib.ListN.{length};
+
+pub fn word(text: &[u8]) {
+    io::write_all(STDOUT_FILENO, text);
+}
+
+pub fn number(n: u64) {
+    word(b" ");
+    io::print_decimal(STDOUT_FILENO, n);
+}
+
+pub fn name(text: &[u8]) {
+    word(text);
+    word(b":");
+}
+
+pub fn end() {
+    word(b"\n");
+}
+
+// The first n bytes of a text.
+fn start(text: &[u8], n: usize)
+    requires { ⌜ n ≤ length (now text) ⌝ }
+{
+    word(&text[..n]);
+}
+
+// A refusal: the lister's line.
+pub fn refused(e: ContainerError) {
+    let mut line = [0u8; 200];
+    let n = listing::put_refused(&mut line, 0, e);
+    word(b" ");
+    start(&line, n);
+}
+
+// A case whose answer is a number.
+pub fn value(n: u64) {
+    number(n);
+    end();
+}
+
+fn types(types: MaybeTypes) {
+    match types {
+        MaybeTypes::None => word(b", no types"),
+        MaybeTypes::Some(t) => {
+            word(b", types");
+            number(t.fb_types as u64);
+            number(t.arrays as u64);
+            number(t.user_fbs as u64);
+        }
+    }
+}
+
+// The lister's debug line.
+fn debug(debug: MaybeDebug) {
+    let mut line = [0u8; 200];
+    let n = listing::put_debug(&mut line, 0, debug);
+    word(b", ");
+    start(&line, n);
+}
+
+// How a file loads: its refusal, or which counts its types and debug have.
+pub fn load(case: &[u8], file: &[u8]) {
+    name(case);
+    match container::read_from(file) {
+        ContainerAnswer::Refused(e) => refused(e),
+        ContainerAnswer::Container(c) => {
+            word(b" loaded");
+            let has_types = c.types;
+            types(has_types);
+            let has_debug = c.debug;
+            debug(has_debug);
+        }
+    }
+}
+
+// The same of a file as long as M.
+pub fn mill(case: &[u8], file: [u8; 405]) {
+    load(case, &file);
+}
