@@ -15,7 +15,7 @@ fn main() {
     io::read_full(STDIN_FILENO, &mut tables);
     loads::header(mill);
     loads::limits(mill);
-    loads::hash_limits();
+    loads::hash_limit();
     loads::hashes(mill);
     loads::hashed_places(mill);
     loads::places(mill);
