@@ -14,12 +14,8 @@ fn room() -> [u8; 65537] {
     [0; 65537]
 }
 
-// The most bytes that the hash is asked for, and a byte more.
-fn hash_limit() -> [u8; 261376] {
-    [0; 261376]
-}
-
-fn over_hash_limit() -> [u8; 261377] {
+// A byte more than the hash is asked for.
+fn hash_room() -> [u8; 261377] {
     [0; 261377]
 }
 
@@ -46,7 +42,7 @@ fn with_four(file: [u8; 405], at: usize, byte: u8) -> [u8; 405]
     f
 }
 
-pub fn header(file: [u8; 405]) {
+fn header(file: [u8; 405]) {
     first_255(b"255 bytes", file);
     load_first(b"256 bytes of M", &file, 256);
     let mut magic = file;
@@ -80,7 +76,7 @@ fn lengthened(file: [u8; 405]) -> [u8; 65537] {
     long
 }
 
-pub fn limits(file: [u8; 405]) {
+fn limits(file: [u8; 405]) {
     let long = lengthened(file);
     load_first(b"65,536 bytes", &long, 65536);
     load(b"65,537 bytes", &long);
@@ -97,11 +93,10 @@ fn hash_alone(case: &[u8], bytes: &[u8]) {
     }
 }
 
-pub fn hash_limits() {
-    let most = hash_limit();
-    hash_alone(b"the hash alone of 261,376 bytes", &most);
-    let over = over_hash_limit();
-    hash_alone(b"the hash alone of 261,377 bytes", &over);
+// The program `vectors` hashes a byte less.
+fn hash_limit() {
+    let long = hash_room();
+    hash_alone(b"the hash alone of 261,377 bytes", &long);
 }
 
 // The file with a digest at a place of its header.
@@ -127,7 +122,7 @@ fn hashed(file: [u8; 405]) -> [u8; 405] {
     }
 }
 
-pub fn hashes(file: [u8; 405]) {
+fn hashes(file: [u8; 405]) {
     let own = hashed(file);
     mill(b"M with its content hash", own);
     let mut code = own;
@@ -144,7 +139,7 @@ pub fn hashes(file: [u8; 405]) {
     mill(b"reserved bytes are hashed", reserved);
 }
 
-pub fn hashed_places(file: [u8; 405]) {
+fn hashed_places(file: [u8; 405]) {
     let own = hashed(file);
     let mut outside = own;
     outside[179] = 1;
@@ -167,7 +162,7 @@ pub fn hashed_places(file: [u8; 405]) {
     );
 }
 
-pub fn places(file: [u8; 405]) {
+fn places(file: [u8; 405]) {
     let mut tasks = file;
     tasks[160] = 255;
     tasks[161] = 0;
@@ -189,7 +184,7 @@ pub fn places(file: [u8; 405]) {
     mill(b"a task of type 3 before the place of code", code);
 }
 
-pub fn tasks(file: [u8; 405]) {
+fn tasks(file: [u8; 405]) {
     let mut kind = file;
     kind[266] = 2;
     mill(b"a task of type 2", kind);
@@ -209,7 +204,7 @@ pub fn tasks(file: [u8; 405]) {
     mill(b"5 bytes of tasks", head);
 }
 
-pub fn types(file: [u8; 405]) {
+fn types(file: [u8; 405]) {
     let mut flag = file;
     flag[7] = 2;
     mill(b"types with their flag clear", flag);
@@ -226,7 +221,7 @@ pub fn types(file: [u8; 405]) {
     mill(b"one byte of types", empty);
 }
 
-pub fn fields(file: [u8; 405]) {
+fn fields(file: [u8; 405]) {
     let mut field = file;
     field[310] = 1;
     field[312] = 5;
@@ -244,7 +239,7 @@ pub fn fields(file: [u8; 405]) {
     mill(b"3 bytes of an FB type", field);
 }
 
-pub fn arrays(file: [u8; 405]) {
+fn arrays(file: [u8; 405]) {
     let mut array = file;
     array[322] = 15;
     mill(b"a string array of extra 10 and stride 15", array);
@@ -267,7 +262,7 @@ pub fn arrays(file: [u8; 405]) {
 }
 
 // Behind M's types stand its constants, whose first 18 bytes are two user FBs and their count.
-pub fn user_fbs(file: [u8; 405]) {
+fn user_fbs(file: [u8; 405]) {
     let mut behind = file;
     behind[156] = 17;
     mill(b"one byte behind the arrays is no count", behind);
@@ -279,7 +274,7 @@ pub fn user_fbs(file: [u8; 405]) {
     mill(b"two user FBs", behind);
 }
 
-pub fn constants(file: [u8; 405]) {
+fn constants(file: [u8; 405]) {
     let mut kind = file;
     kind[328] = 8;
     mill(b"a constant of type 8", kind);
@@ -299,7 +294,7 @@ pub fn constants(file: [u8; 405]) {
     mill(b"a string of 9 bytes", string);
 }
 
-pub fn code(file: [u8; 405]) {
+fn code(file: [u8; 405]) {
     let mut two = file;
     two[208] = 2;
     mill(b"two functions in 21 bytes", two);
@@ -316,7 +311,7 @@ fn debug_hashed(file: [u8; 405]) -> [u8; 405] {
     }
 }
 
-pub fn debug(file: [u8; 405]) {
+fn debug(file: [u8; 405]) {
     let mut flag = file;
     flag[7] = 4;
     mill(b"debug with its flag clear", flag);
@@ -338,7 +333,7 @@ pub fn debug(file: [u8; 405]) {
     mill(b"one byte of debug", byte);
 }
 
-pub fn debug_tables(file: [u8; 405]) {
+fn debug_tables(file: [u8; 405]) {
     let mut size = file;
     size[369] = 99;
     mill(b"the size of a known table is ignored", size);
@@ -358,7 +353,7 @@ pub fn debug_tables(file: [u8; 405]) {
 }
 
 // M with a second row of debug, in the bytes of its count of lines and its first line. Both tables of lines are in the bytes behind it.
-pub fn two_tables(file: [u8; 405]) {
+fn two_tables(file: [u8; 405]) {
     let mut later = file;
     later[363] = 2;
     later[373] = 1;
@@ -369,4 +364,23 @@ pub fn two_tables(file: [u8; 405]) {
     mill(b"a second table of lines, of one line, in force", later);
     later[363] = 0;
     mill(b"no row of debug", later);
+}
+
+pub fn all(file: [u8; 405]) {
+    header(file);
+    limits(file);
+    hash_limit();
+    hashes(file);
+    hashed_places(file);
+    places(file);
+    tasks(file);
+    types(file);
+    fields(file);
+    arrays(file);
+    user_fbs(file);
+    constants(file);
+    code(file);
+    debug(file);
+    debug_tables(file);
+    two_tables(file);
 }

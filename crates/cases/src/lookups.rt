@@ -243,7 +243,7 @@ pub fn variable(case: &[u8], c: Container, file: &[u8], index: u16) {
     }
 }
 
-pub fn function_name(case: &[u8], c: Container, file: &[u8], index: u16) {
+fn function_name(case: &[u8], c: Container, file: &[u8], index: u16) {
     name(case);
     match c.function_name(file, index) {
         FunctionNameAnswer::Refused(e) => refused(e),
@@ -256,7 +256,7 @@ pub fn function_name(case: &[u8], c: Container, file: &[u8], index: u16) {
     }
 }
 
-pub fn string_layout(case: &[u8], c: Container, file: &[u8], index: u16) {
+fn string_layout(case: &[u8], c: Container, file: &[u8], index: u16) {
     name(case);
     match c.string_layout(file, index) {
         LayoutAnswer::Refused(e) => refused(e),
@@ -268,7 +268,7 @@ pub fn string_layout(case: &[u8], c: Container, file: &[u8], index: u16) {
     }
 }
 
-pub fn source_file(case: &[u8], c: Container, file: &[u8], index: u16) {
+fn source_file(case: &[u8], c: Container, file: &[u8], index: u16) {
     name(case);
     match c.source_file(file, SourceFileId::new(index)) {
         SourceAnswer::Refused(e) => refused(e),
@@ -292,7 +292,7 @@ pub fn enumeration(case: &[u8], c: Container, file: &[u8], index: u16) {
     }
 }
 
-pub fn enumeration_value(case: &[u8], c: Container, file: &[u8], index: u16, value: u16) {
+fn enumeration_value(case: &[u8], c: Container, file: &[u8], index: u16, value: u16) {
     name(case);
     match c.enumeration_value(file, index, value) {
         ValueAnswer::Refused(e) => refused(e),
@@ -311,7 +311,7 @@ fn tasks_of(c: Container, file: &[u8]) {
     program(b"program 1", c, file, 1);
 }
 
-pub fn tasks(mill: [u8; 405]) {
+fn tasks(mill: [u8; 405]) {
     if let ContainerAnswer::Container(c) = container::read_from(&mill) {
         tasks_of(c, &mill);
     }
@@ -327,7 +327,7 @@ fn arrays_of(c: Container, file: &[u8]) {
     user_fb(b"user FB 0 of M", c, file, 0);
 }
 
-pub fn arrays(mill: [u8; 405]) {
+fn arrays(mill: [u8; 405]) {
     if let ContainerAnswer::Container(c) = container::read_from(&mill) {
         arrays_of(c, &mill);
     }
@@ -342,7 +342,7 @@ fn fields_of(c: Container, file: &[u8]) {
 }
 
 // M with an FB type of one field, and no arrays.
-pub fn fields(mill: [u8; 405]) {
+fn fields(mill: [u8; 405]) {
     let mut f = mill;
     f[310] = 1;
     f[312] = 5;
@@ -363,7 +363,7 @@ fn user_fbs_of(c: Container, file: &[u8]) {
 }
 
 // M with its constants as user FBs also.
-pub fn user_fbs(mill: [u8; 405]) {
+fn user_fbs(mill: [u8; 405]) {
     let mut f = mill;
     f[156] = 34;
     if let ContainerAnswer::Container(c) = container::read_from(&f) {
@@ -380,7 +380,7 @@ fn size_of(case: &[u8], file: [u8; 405]) {
 }
 
 // An array of type 6, extra 9 and stride 15, and of type 0.
-pub fn sizes(mill: [u8; 405]) {
+fn sizes(mill: [u8; 405]) {
     let mut f = mill;
     f[316] = 0x11;
     f[317] = 0x11;
@@ -418,7 +418,7 @@ fn constants_of(c: Container, file: &[u8]) {
     char_width(b"bytes to a character of constant 2", c, file, 2);
 }
 
-pub fn constants(mill: [u8; 405]) {
+fn constants(mill: [u8; 405]) {
     if let ContainerAnswer::Container(c) = container::read_from(&mill) {
         constants_of(c, &mill);
     }
@@ -451,7 +451,7 @@ fn first_constant(case: &[u8], mill: [u8; 405], kind: u8, bytes: [u8; 4]) {
     }
 }
 
-pub fn getters(mill: [u8; 405]) {
+fn getters(mill: [u8; 405]) {
     let number = [0x0E, 1, 0, 0x80];
     first_constant(b"I32 0E 01 00 80", mill, 0, number);
     first_constant(b"U32 0E 01 00 80", mill, 1, number);
@@ -478,7 +478,7 @@ fn wide_constant(case: &[u8], mill: [u8; 405], kind: u8) {
     }
 }
 
-pub fn wide_getters(mill: [u8; 405]) {
+fn wide_getters(mill: [u8; 405]) {
     wide_constant(b"I32 0E 01 00 00 00 00 00 80", mill, 0);
     wide_constant(b"U32 0E 01 00 00 00 00 00 80", mill, 1);
     wide_constant(b"I64 0E 01 00 00 00 00 00 80", mill, 2);
@@ -496,7 +496,7 @@ fn code_of(c: Container, file: &[u8]) {
 }
 
 // A file with the stored id 7 and other bytes of code.
-pub fn code(mill: [u8; 405]) {
+fn code(mill: [u8; 405]) {
     let mut f = mill;
     f[342] = 7;
     f[358] = b'a';
@@ -538,7 +538,7 @@ fn unsorted_of(c: Container, file: &[u8]) {
     line(b"an unsorted map, line 0", c, file, 0);
 }
 
-pub fn lines(mill: [u8; 405]) {
+fn lines(mill: [u8; 405]) {
     let mut f = mill;
     if let ContainerAnswer::Container(c) = container::read_from(&f) {
         lines_of(c, &f);
@@ -550,7 +550,7 @@ pub fn lines(mill: [u8; 405]) {
 }
 
 // M with no row of debug.
-pub fn no_lines(mill: [u8; 405]) {
+fn no_lines(mill: [u8; 405]) {
     let mut f = mill;
     f[363] = 0;
     if let ContainerAnswer::Container(c) = container::read_from(&f) {
@@ -591,4 +591,18 @@ fn bad_name(c: Container, tables: [u8; 522]) {
     load(b"a name that is not UTF-8", &f);
     function_name(b"a function name where a variable's is not UTF-8", c, &f, 0);
     source_line(b"a line where a name is not UTF-8", c, &f, 0, 0);
+}
+
+pub fn all(mill: [u8; 405]) {
+    tasks(mill);
+    arrays(mill);
+    fields(mill);
+    user_fbs(mill);
+    sizes(mill);
+    constants(mill);
+    getters(mill);
+    wide_getters(mill);
+    code(mill);
+    lines(mill);
+    no_lines(mill);
 }

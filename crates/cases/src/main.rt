@@ -1,6 +1,7 @@
-// Document 01's unstarred cases, every row of its table of refusals with a small file that gives it, lookups over records that were not read from
-// that file, and the readings of unclear sentences (docs/DECISIONS.md, 1 to 21). The mill file M comes on standard input, and behind it a file with
-// all six debug tables; each case alters some of their bytes. In M tasks stand at 256, types at 310, constants at 326, code at 342, debug at 363, their places in the header from 152 on.
+// Document 01's unstarred cases, every row of its table of refusals with a small file that gives it, lookups over records that were not
+// read from that file, and the readings of unclear sentences (docs/DECISIONS.md, 1 to 21). The mill file M comes on standard input, and
+// behind it a file with all six debug tables; each case alters some of their bytes. In M tasks stand at 256, types at 310, constants at
+// 326, code at 342, debug at 363, their places in the header from 152 on.
 use libc::STDIN_FILENO;
 
 mod loads;
@@ -13,38 +14,8 @@ fn main() {
     io::read_full(STDIN_FILENO, &mut mill);
     let mut tables = [0u8; 522];
     io::read_full(STDIN_FILENO, &mut tables);
-    loads::header(mill);
-    loads::limits(mill);
-    loads::hash_limits();
-    loads::hashes(mill);
-    loads::hashed_places(mill);
-    loads::places(mill);
-    loads::tasks(mill);
-    loads::types(mill);
-    loads::fields(mill);
-    loads::arrays(mill);
-    loads::user_fbs(mill);
-    loads::constants(mill);
-    loads::code(mill);
-    loads::debug(mill);
-    loads::debug_tables(mill);
-    loads::two_tables(mill);
-    lookups::tasks(mill);
-    lookups::arrays(mill);
-    lookups::fields(mill);
-    lookups::user_fbs(mill);
-    lookups::sizes(mill);
-    lookups::constants(mill);
-    lookups::getters(mill);
-    lookups::wide_getters(mill);
-    lookups::code(mill);
-    lookups::lines(mill);
-    lookups::no_lines(mill);
+    loads::all(mill);
+    lookups::all(mill);
     lookups::debug(tables);
-    records::other_lengths(mill);
-    records::zeros(mill);
-    records::altered_tasks(mill);
-    records::altered_sections(mill);
-    records::made_up(mill);
-    records::two_functions(mill);
+    records::all(mill);
 }

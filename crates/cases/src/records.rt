@@ -44,7 +44,7 @@ fn each_first(case: &[u8], c: Container, file: &[u8], n: usize)
     each(case, c, &file[..n]);
 }
 
-pub fn other_lengths(mill: [u8; 405]) {
+fn other_lengths(mill: [u8; 405]) {
     if let ContainerAnswer::Container(c) = container::read_from(&mill) {
         each(b"M's record over M", c, &mill);
         each_first(b"M's record over 255 bytes", c, &mill, 255);
@@ -57,7 +57,7 @@ pub fn other_lengths(mill: [u8; 405]) {
     }
 }
 
-pub fn zeros(mill: [u8; 405]) {
+fn zeros(mill: [u8; 405]) {
     let long = room();
     if let ContainerAnswer::Container(c) = container::read_from(&mill) {
         each(b"M's record over 65,537 zero bytes", c, &long);
@@ -78,7 +78,7 @@ fn past(case: &[u8], c: Container, file: &[u8]) {
 }
 
 // Magic and hash are not asked, nor another section.
-pub fn altered_tasks(mill: [u8; 405]) {
+fn altered_tasks(mill: [u8; 405]) {
     if let ContainerAnswer::Container(c) = container::read_from(&mill) {
         let mut f = mill;
         f[0] = 0;
@@ -90,7 +90,7 @@ pub fn altered_tasks(mill: [u8; 405]) {
 }
 
 // The refusal of the section comes before that of the lookup.
-pub fn altered_sections(mill: [u8; 405]) {
+fn altered_sections(mill: [u8; 405]) {
     if let ContainerAnswer::Container(c) = container::read_from(&mill) {
         let mut f = mill;
         f[322] = 15;
@@ -120,7 +120,7 @@ fn absent(case: &[u8], c: Container, file: &[u8]) {
 }
 
 // M's record without types, debug and any constant.
-pub fn made_up(mill: [u8; 405]) {
+fn made_up(mill: [u8; 405]) {
     let long = room();
     if let ContainerAnswer::Container(c) = container::read_from(&mill) {
         let header = c.header;
@@ -152,7 +152,7 @@ fn two_of(c: Container, file: &[u8]) {
 }
 
 // A record of two functions, whose code runs to M's end, over M with other bytes behind them; and one with the size of M's code.
-pub fn two_functions(mill: [u8; 405]) {
+fn two_functions(mill: [u8; 405]) {
     let mut two = mill;
     two[208] = 2;
     two[180] = 63;
@@ -170,4 +170,13 @@ pub fn two_functions(mill: [u8; 405]) {
         r.header = h;
         function(b"two functions in 21 bytes, the first", r, &f, 0);
     }
+}
+
+pub fn all(mill: [u8; 405]) {
+    other_lengths(mill);
+    zeros(mill);
+    altered_tasks(mill);
+    altered_sections(mill);
+    made_up(mill);
+    two_functions(mill);
 }
