@@ -1,0 +1,36 @@
+// Lists the container that comes on standard input, as document 01 says: a line for the container, one for each entry of its tables, and `end`; or one
+// line with its refusal. The text comes from a proved function; the program reads and prints.
+use libc::STDERR_FILENO;
+use libc::STDIN_FILENO;
+use libc::STDOUT_FILENO;
+use table_lines::Put;
+
+// One byte beyond the program's limit of 65,536 bytes: a longer file is cut there, and refused with 10.
+fn room() -> [u8; 65537] {
+    [0; 65537]
+}
+
+// Room for the text of any file of 65,536 bytes, also where its sections overlap.
+fn page() -> [u8; 2097152] {
+    [0; 2097152]
+}
+
+fn list(file: &[u8], text: &mut [u8]) {
+    match file_text::put_file(text, 0, file) {
+        Put::NoRoom => {
+            io::write_all(STDERR_FILENO, b"the listing is too long\n");
+        }
+        Put::At(n) => {
+            if n <= text.len() {
+                io::write_all(STDOUT_FILENO, &text[..n]);
+            }
+        }
+    }
+}
+
+fn main() {
+    let mut file = room();
+    let n = io::read_full(STDIN_FILENO, &mut file);
+    let mut text = page();
+    list(&file[..n], &mut text);
+}
