@@ -6,8 +6,9 @@ use libc::STDOUT_FILENO;
 use table_lines::Put;
 ghost use Prim.Native.Nat.{_<_};
 
-fn room() -> [u8; 65536] {
-    [0; 65536]
+// A length has two bytes.
+fn room() -> [u8; 65535] {
+    [0; 65535]
 }
 
 fn page() -> [u8; 2097152] {
@@ -44,15 +45,25 @@ fn next_length() -> usize {
     wide(head[0]) + 256 * wide(head[1])
 }
 
-fn main() {
+// The next file, of `n` bytes.
+fn replay(n: usize) {
     let mut file = room();
+    if n > 65535 {
+        return;
+    }
+    let got = io::read_full(STDIN_FILENO, &mut file[..n]);
     let mut text = page();
+    if got <= 65535 {
+        list(&file[..got], &mut text);
+    }
+}
+
+fn main() {
     for _ in 0..65536usize {
         let n = next_length();
-        if n >= 65536 {
+        if n == 65536 {
             return;
         }
-        io::read_full(STDIN_FILENO, &mut file[..n]);
-        list(&file[..n], &mut text);
+        replay(n);
     }
 }
