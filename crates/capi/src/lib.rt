@@ -1,0 +1,117 @@
+// The reader for C and Rust. Each function reads the file anew and keeps nothing; what it answers stands in the buffer that the caller lends.
+// A lookup's answer is numbers: a refusal's number and values, or 0 and the answer's fields. What is answered is how many they are, and a buffer with
+// room for less than 64 gets none.
+mod lent;
+mod loading;
+mod lookup;
+mod numbers;
+
+ghost use mathlib.Core.Path.{_≡_};
+ghost use Rattle.blake3.specs.Blake3.{hashAsked};
+ghost use Rattle.file_text.specs.Texts.{fileListing};
+ghost use Rattle.file_text.specs.Texts as texts;
+ghost use Rattle.capi.specs.Answers.{listed};
+ghost use Rattle.capi.specs.Asked.{asked, loaded, contentHash};
+ghost use Rattle.capi.specs.Lent.{Said, Told, Listed};
+use crate::lent::ROOM;
+use crate::lent::put_digest;
+use crate::lent::say;
+use crate::loading::put_record;
+use crate::lookup::lookup;
+use crate::numbers::Numbers;
+use crate::numbers::refusal;
+use blake3::HashAnswer;
+use container::ContainerAnswer;
+use container::read_from;
+use table_lines::Put;
+
+// The bytes of a digest.
+const DIGEST: usize = 32;
+
+// No refusal's number: the buffer has no room for a digest.
+const NO_ROOM: usize = 255;
+
+// A lookup over a file and the record that reading it yields.
+fn ask(file: &[u8], kind: u16, index: u16, second: u16) -> Numbers
+    ensures { λ r. ⌜ listed r ≡ asked (now (file .entry)) kind index second ⌝ }
+{
+    match read_from(file) {
+        ContainerAnswer::Refused(e) => refusal(e),
+        ContainerAnswer::Container(c) => lookup(c, file, kind, index, second),
+    }
+}
+
+// What reading a file yields: its refusal, or 0 and the record.
+#[no_mangle]
+pub extern "C" fn container_load(file: &[u8], out: &mut [u64]) -> usize
+    ensures { λ r. ⌜ Said (now (out .entry)) (loaded (now (file .entry))) (now (out .exit)) r ⌝ }
+{
+    if out.len() < ROOM {
+        return 0;
+    }
+    match read_from(file) {
+        ContainerAnswer::Refused(e) => say(out, refusal(e)),
+        ContainerAnswer::Container(c) => put_record(out, c),
+    }
+}
+
+// A lookup, by its kind, with one index or two.
+#[no_mangle]
+pub extern "C" fn container_ask(
+    file: &[u8],
+    kind: u16,
+    index: u16,
+    second: u16,
+    out: &mut [u64],
+) -> usize
+    ensures { λ r. ⌜ Said (now (out .entry)) (asked (now (file .entry)) kind index second) (now (out .exit)) r ⌝ }
+{
+    say(out, ask(file, kind, index, second))
+}
+
+// The source location of a place in a function's bytecode: kind 18.
+#[no_mangle]
+pub extern "C" fn container_line(file: &[u8], function: u16, offset: u16, out: &mut [u64]) -> usize
+    ensures { λ r. ⌜ Said (now (out .entry)) (asked (now (file .entry)) 18 function offset) (now (out .exit)) r ⌝ }
+{
+    say(out, ask(file, 18, function, offset))
+}
+
+// The content hash of a file that reads.
+#[no_mangle]
+pub extern "C" fn container_content_hash(file: &[u8], out: &mut [u8]) -> usize
+    ensures { λ r. ⌜ Told (now (out .entry)) (contentHash (now (file .entry))) (now (out .exit)) r ⌝ }
+{
+    if out.len() < DIGEST {
+        return NO_ROOM;
+    }
+    match read_from(file) {
+        ContainerAnswer::Refused(e) => e.number() as usize,
+        ContainerAnswer::Container(c) => put_digest(out, c.header.content_hash),
+    }
+}
+
+// BLAKE3 of any bytes.
+#[no_mangle]
+pub extern "C" fn container_hash(bytes: &[u8], out: &mut [u8]) -> usize
+    ensures { λ r. ⌜ Told (now (out .entry)) (hashAsked (now (bytes .entry))) (now (out .exit)) r ⌝ }
+{
+    if out.len() < DIGEST {
+        return NO_ROOM;
+    }
+    match blake3::hash(bytes) {
+        HashAnswer::Refused(e) => e.number() as usize,
+        HashAnswer::Digest(d) => put_digest(out, d),
+    }
+}
+
+// The listing of a file, and its length.
+#[no_mangle]
+pub extern "C" fn container_list(file: &[u8], out: &mut [u8]) -> usize
+    ensures { λ r. ⌜ Listed (now (out .entry)) (fileListing (now (file .entry))) (texts.room (now (file .entry))) (now (out .exit)) r ⌝ }
+{
+    match file_text::put_file(out, 0, file) {
+        Put::NoRoom => 0,
+        Put::At(n) => n,
+    }
+}
