@@ -93,7 +93,8 @@ impl Run {
 
 /// One file on both sides. The difference, if there is one, with what each side says.
 fn one(file: &[u8], reading: &Reading, port: &Port, run: &mut Run) -> Option<(String, String, String)> {
-    let asked = questions(file, reading, all());
+    let mut asked = questions(file, reading, all());
+    asked.retain(|q| port.has(q.lookup));
     let listed = listing(reading);
     let said = match port::ask(port, file, &asked) {
         Ok(said) => said,

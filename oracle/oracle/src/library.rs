@@ -1,26 +1,43 @@
-//! The port as a static library: the two C functions that the oracle asks for (README, "The library"), and their numbers as
-//! the text of an answer.
+//! The port as a static library: its C functions (include/nurqeshil.h), and their numbers as the text of an answer.
 
 use crate::bytes::hex;
-use crate::questions::LOOKUPS;
 #[cfg(feature = "library")]
 use crate::{port::Reply, questions::Question};
 
 #[cfg(feature = "library")]
 unsafe extern "C" {
-    /// Writes the listing of a file to `out` and answers its length.
-    fn container_list(file: *const u8, length: usize, out: *mut u8, room: usize) -> usize;
-    /// Writes the answer's numbers to `out` and answers how many: 0 and the numbers, or a refusal's number and its values.
+    fn container_load(file: *const u8, length: usize, out: *mut u64, room: usize) -> usize;
     fn container_ask(
         file: *const u8,
         length: usize,
-        lookup: u32,
-        i: u32,
-        j: u32,
+        kind: u16,
+        index: u16,
+        second: u16,
         out: *mut u64,
         room: usize,
     ) -> usize;
+    fn container_line(
+        file: *const u8,
+        length: usize,
+        function: u16,
+        offset: u16,
+        out: *mut u64,
+        room: usize,
+    ) -> usize;
+    fn container_content_hash(file: *const u8, length: usize, out: *mut u8, room: usize) -> usize;
+    fn container_hash(bytes: *const u8, length: usize, out: *mut u8, room: usize) -> usize;
+    fn container_list(file: *const u8, length: usize, out: *mut u8, room: usize) -> usize;
 }
+
+/// The library's kinds of lookup, each at the place that is its number.
+pub const KINDS: [&str; 26] = [
+    "task", "program", "fb_type", "field", "array", "array_size", "user_fb", "constant", "get_i32", "get_u32", "get_i64",
+    "get_u64", "get_f32", "get_f64", "get_str", "char_width", "function", "bytecode", "line", "line_entry", "variable",
+    "function_name", "string_layout", "source_file", "enumeration", "enumeration_value",
+];
+
+/// The questions that the library has no function for.
+pub const LEFT_OUT: [&str; 2] = ["utf8", "masked_header"];
 
 /// What an answer has, in its order.
 #[derive(Clone, Copy)]
@@ -40,21 +57,18 @@ enum Piece {
 fn pieces(lookup: &str) -> &'static [Piece] {
     use Piece::*;
     match lookup {
-        "hash" => &[Bytes(32)],
-        "masked_header" => &[Bytes(256)],
-        "header" => &[Numbers(4), Bytes(32), Bytes(32), Bytes(32), Bytes(32), Numbers(25), Bytes(38)],
-        "tasks" | "types" | "string_layout" => &[Numbers(3)],
         "task" => &[Numbers(9), Bytes(4)],
         "program" => &[Numbers(8)],
-        "fb_type" | "field" | "code" => &[Numbers(2)],
+        "fb_type" | "field" => &[Numbers(2)],
         "array" | "user_fb" => &[Numbers(4)],
         "constant" => &[Constant],
         "get_i32" | "get_i64" => &[Signed],
         "get_str" | "bytecode" | "enumeration_value" => &[Part],
-        "function" | "debug" => &[Numbers(6)],
+        "function" => &[Numbers(6)],
         "line" | "line_entry" => &[Numbers(5)],
         "variable" => &[Numbers(4), Part, Part],
         "function_name" => &[Numbers(1), Part],
+        "string_layout" => &[Numbers(3)],
         "source_file" => &[Part, Bytes(32)],
         "enumeration" => &[Part, Numbers(1)],
         _ => &[Numbers(1)],
@@ -103,62 +117,170 @@ impl Numbers<'_> {
     }
 }
 
-/// The text of an answer. Absent types and debug are `none` where their counts are asked.
-pub fn text(file: &[u8], lookup: &str, said: &[u64]) -> String {
-    match (lookup, said) {
-        ("types", [16]) | ("debug", [15]) => return "none".to_string(),
-        (_, [0, rest @ ..]) => {
-            let mut numbers = Numbers { rest: rest.iter() };
-            let texts: Option<Vec<String>> =
-                pieces(lookup).iter().map(|piece| numbers.piece(file, *piece)).collect();
-            match texts {
-                Some(texts) if numbers.next().is_none() => texts.join(" "),
-                _ => format!("not the numbers of an answer: {said:?}"),
-            }
-        }
-        (_, [number]) => format!("refused {number} -"),
-        (_, [number, values @ ..]) => {
+/// The text of a refusal's number and values.
+fn refusal(said: &[u64]) -> String {
+    match said {
+        [] => "no numbers".to_string(),
+        [number] => format!("refused {number} -"),
+        [number, values @ ..] => {
             let values: Vec<String> = values.iter().map(u64::to_string).collect();
             format!("refused {number} {}", values.join(" "))
         }
-        (_, []) => "no numbers".to_string(),
     }
 }
 
-/// The number of a lookup: its place in the list of lookups.
-pub fn number_of(lookup: &str) -> u32 {
-    LOOKUPS.iter().position(|name| *name == lookup).expect("a listed lookup") as u32
-}
-
-#[cfg(feature = "library")]
-fn answer(file: &[u8], q: &Question) -> String {
-    let at = |n: usize| q.arguments.get(n).copied().unwrap_or(0);
-    let mut out = [0u64; 64];
-    let (lookup, i, j) = (number_of(q.lookup), at(0), at(1));
-    // SAFETY: the library reads `file` and writes at most `out.len()` numbers.
-    let count = unsafe { container_ask(file.as_ptr(), file.len(), lookup, i, j, out.as_mut_ptr(), out.len()) };
-    format!("{}: {}", q.text(), text(file, q.lookup, &out[..count.min(out.len())]))
-}
-
-/// A listing is shorter than this: five sections of less than 65,536 bytes each, at most nine characters to a byte (a constant
-/// of four bytes lists eight kept ones).
-#[cfg(feature = "library")]
-const ROOM: usize = 4 << 20;
-
-#[cfg(feature = "library")]
-pub fn ask(file: &[u8], questions: &[Question]) -> Reply {
-    let mut out = vec![0u8; ROOM];
-    // SAFETY: the library reads `file` and writes at most `out.len()` bytes.
-    let length = unsafe { container_list(file.as_ptr(), file.len(), out.as_mut_ptr(), out.len()) };
-    Reply {
-        listing: String::from_utf8_lossy(&out[..length.min(ROOM)]).into_owned(),
-        answers: Some(questions.iter().map(|q| answer(file, q)).collect()),
+/// The text of a lookup's answer.
+pub fn text(file: &[u8], lookup: &str, said: &[u64]) -> String {
+    let [0, rest @ ..] = said else { return refusal(said) };
+    let mut numbers = Numbers { rest: rest.iter() };
+    let texts: Option<Vec<String>> = pieces(lookup).iter().map(|piece| numbers.piece(file, *piece)).collect();
+    match texts {
+        Some(texts) if numbers.next().is_none() => texts.join(" "),
+        _ => format!("not the numbers of an answer: {said:?}"),
     }
 }
+
+/// What loading answers: a 0, then version, profile, flags, seven places, eleven runtime numbers, and counts, at these places.
+const LOADED: usize = 44;
+const PLACES: usize = 4;
+const CODE_SIZE: usize = PLACES + 11;
+const FUNCTIONS: usize = 24;
+const TASKS: usize = 29;
+const TYPES: usize = 32;
+const CONSTANTS: usize = 36;
+const DEBUG: usize = 37;
+
+fn joined(numbers: &[u64]) -> String {
+    numbers.iter().map(u64::to_string).collect::<Vec<_>>().join(" ")
+}
+
+/// Counts that are there if the number before them is 1.
+fn counts(said: &[u64]) -> String {
+    match said {
+        [1, counts @ ..] => joined(counts),
+        [0, counts @ ..] if counts.iter().all(|n| *n == 0) => "none".to_string(),
+        _ => format!("not counts: {said:?}"),
+    }
+}
+
+/// The text of the questions on the header and on counts, from what loading answers. The header's fields that the library does
+/// not answer (magic, the other three hashes, the reserved bytes) are taken from the file.
+pub fn loaded_text(file: &[u8], lookup: &str, said: &[u64], content_hash: &str) -> String {
+    if said.len() != LOADED || said[0] != 0 {
+        return format!("not the numbers of a loaded file: {said:?}");
+    }
+    match lookup {
+        "header" => {
+            let magic = u32::from_le_bytes([file[0], file[1], file[2], file[3]]);
+            let others = [&file[40..72], &file[72..104], &file[104..136]].map(hex).join(" ");
+            let numbers = joined(&said[PLACES..TASKS]);
+            format!("{magic} {} {content_hash} {others} {numbers} {}", joined(&said[1..PLACES]), hex(&file[218..256]))
+        }
+        "tasks" => joined(&said[TASKS..TYPES]),
+        "types" => counts(&said[TYPES..CONSTANTS]),
+        "constants" => said[CONSTANTS].to_string(),
+        "code" => {
+            let bytecode = said[CODE_SIZE].wrapping_sub(16 * said[FUNCTIONS]);
+            format!("{} {bytecode}", said[FUNCTIONS])
+        }
+        _ => counts(&said[DEBUG..LOADED]),
+    }
+}
+
+#[cfg(feature = "library")]
+mod linked {
+    use super::*;
+
+    /// Numbers that the library wrote, and the rest of the buffer as it was.
+    fn numbers(put: impl Fn(*mut u64, usize) -> usize) -> Vec<u64> {
+        const UNTOUCHED: u64 = 0x0123_4567_89ab_cdef;
+        let mut out = [UNTOUCHED; 64];
+        let count = put(out.as_mut_ptr(), out.len());
+        assert!(count <= out.len() && out[count..].iter().all(|n| *n == UNTOUCHED), "numbers behind the answer");
+        out[..count].to_vec()
+    }
+
+    // SAFETY, for each of these: the library reads `file` and writes at most as much as the buffer has room for.
+
+    fn load(file: &[u8]) -> Vec<u64> {
+        numbers(|out, room| unsafe { container_load(file.as_ptr(), file.len(), out, room) })
+    }
+
+    fn asked(file: &[u8], kind: u16, i: u16, j: u16) -> Vec<u64> {
+        numbers(|out, room| unsafe { container_ask(file.as_ptr(), file.len(), kind, i, j, out, room) })
+    }
+
+    fn line(file: &[u8], function: u16, offset: u16) -> Vec<u64> {
+        numbers(|out, room| unsafe { container_line(file.as_ptr(), file.len(), function, offset, out, room) })
+    }
+
+    /// A digest's text, or that of a refusal's number.
+    fn digest(put: impl Fn(*mut u8, usize) -> usize) -> String {
+        let mut out = [0xa5; 33];
+        let number = put(out.as_mut_ptr(), out.len());
+        match number {
+            0 if out[32] == 0xa5 => hex(&out[..32]),
+            _ => refusal(&[number as u64]),
+        }
+    }
+
+    fn hash(bytes: &[u8]) -> String {
+        digest(|out, room| unsafe { container_hash(bytes.as_ptr(), bytes.len(), out, room) })
+    }
+
+    fn content_hash(file: &[u8]) -> String {
+        digest(|out, room| unsafe { container_content_hash(file.as_ptr(), file.len(), out, room) })
+    }
+
+    fn answer(file: &[u8], loaded: &[u64], q: &Question) -> String {
+        let at = |n: usize| q.arguments.get(n).copied().unwrap_or(0);
+        let index = |n: usize| u16::try_from(at(n)).expect("an index of two bytes");
+        let said = match (q.lookup, KINDS.iter().position(|name| *name == q.lookup)) {
+            ("hash", _) => hash(&file[at(0) as usize..][..at(1) as usize]),
+            ("line", _) if line(file, index(0), index(1)) != asked(file, 18, index(0), index(1)) => {
+                "container_line and container_ask differ".to_string()
+            }
+            (lookup, Some(kind)) => text(file, lookup, &asked(file, kind as u16, index(0), index(1))),
+            (lookup, None) => loaded_text(file, lookup, loaded, &content_hash(file)),
+        };
+        format!("{}: {said}", q.text())
+    }
+
+    /// The listing; of a refused file the other functions must answer the same refusal.
+    fn listing(file: &[u8], loaded: &[u64]) -> String {
+        let mut out = vec![0u8; ROOM];
+        let length = unsafe { container_list(file.as_ptr(), file.len(), out.as_mut_ptr(), out.len()) };
+        let listing = String::from_utf8_lossy(&out[..length.min(ROOM)]).into_owned();
+        if loaded.first() == Some(&0) {
+            return listing;
+        }
+        let number = refusal(&loaded[..1]);
+        if listing != refusal(loaded) + "\n" || asked(file, 0, 0, 0) != loaded || content_hash(file) != number {
+            return format!("{listing}the others: {loaded:?}, {:?}, {}\n", asked(file, 0, 0, 0), content_hash(file));
+        }
+        listing
+    }
+
+    pub fn ask(file: &[u8], questions: &[Question]) -> Reply {
+        let loaded = load(file);
+        Reply {
+            listing: listing(file, &loaded),
+            answers: Some(questions.iter().map(|q| answer(file, &loaded, q)).collect()),
+        }
+    }
+
+    /// A listing is shorter than this: five sections of less than 65,536 bytes each, at most nine characters to a byte (a
+    /// constant of four bytes lists eight kept ones), and the room that the library asks for behind it.
+    const ROOM: usize = 4 << 20;
+}
+
+#[cfg(feature = "library")]
+pub use linked::ask;
 
 #[cfg(test)]
 mod tests {
     use super::*;
+    use crate::questions::LOOKUPS;
 
     #[test]
     fn numbers_as_text() {
@@ -170,11 +292,29 @@ mod tests {
         assert_eq!(text(&file, "constant", &[0, 0, 270]), "0 0e01000000000000");
         assert_eq!(text(&file, "constant", &[0, 6, 107, 2]), "6 6b6c");
         assert_eq!(text(&file, "task", &[0, 1, 2, 0, 4, 5, 6, 7, 8, 9, 0x0403_0201]), "1 2 0 4 5 6 7 8 9 01020304");
-        assert_eq!(text(&file, "types", &[16]), "none");
         assert_eq!(text(&file, "array", &[16]), "refused 16 -");
+        assert_eq!(text(&file, "array", &[]), "no numbers");
         assert!(text(&file, "array", &[0, 1, 2, 3]).starts_with("not the numbers"));
         assert!(text(&file, "array", &[0, 1, 2, 3, 4, 5]).starts_with("not the numbers"));
         assert!(text(&file, "get_str", &[0, 255, 2]).starts_with("not the numbers"));
+    }
+
+    #[test]
+    fn loaded_as_text() {
+        let file: Vec<u8> = (0..=255).collect();
+        let mut said: Vec<u64> = (0..LOADED as u64).collect();
+        said[CODE_SIZE] = 400;
+        said[TYPES] = 1;
+        said[DEBUG..].fill(0);
+        assert_eq!(loaded_text(&file, "tasks", &said, "-"), "29 30 31");
+        assert_eq!(loaded_text(&file, "types", &said, "-"), "33 34 35");
+        assert_eq!(loaded_text(&file, "constants", &said, "-"), "36");
+        assert_eq!(loaded_text(&file, "code", &said, "-"), "24 16");
+        assert_eq!(loaded_text(&file, "debug", &said, "-"), "none");
+        let header = loaded_text(&file, "header", &said, "hash");
+        assert!(header.starts_with("50462976 1 2 3 hash 2829"));
+        assert!(header.contains(" 4 5 6 7 8 9 10 11 12 13 14 400 16 17 18 19 "));
+        assert!(loaded_text(&file, "tasks", &[5], "-").starts_with("not the numbers"));
     }
 
     /// Each answer of the Rust has as many words as the pieces of its lookup.
@@ -192,7 +332,7 @@ mod tests {
             for q in crate::questions::questions(&file, &reading, false) {
                 let line = crate::answers::answer(&file, &reading, &q);
                 let (_, said) = line.split_once(": ").expect("a colon");
-                if said.starts_with("refused") || said == "none" {
+                if !KINDS.contains(&q.lookup) || said.starts_with("refused") {
                     continue;
                 }
                 let expected: usize = pieces(q.lookup).iter().map(words).sum();
@@ -200,13 +340,16 @@ mod tests {
                 seen.insert(q.lookup);
             }
         }
-        assert_eq!(seen.len(), LOOKUPS.len());
+        assert_eq!(seen.len(), KINDS.len());
     }
 
+    /// Every question is a kind, or one of those that are answered otherwise or left out.
     #[test]
-    fn every_lookup_has_a_number() {
-        for (place, lookup) in LOOKUPS.iter().enumerate() {
-            assert_eq!(number_of(lookup) as usize, place);
+    fn every_lookup_has_a_way() {
+        let others = ["hash", "header", "tasks", "types", "constants", "code", "debug"];
+        for lookup in LOOKUPS {
+            let ways = [KINDS.contains(&lookup), others.contains(&lookup), LEFT_OUT.contains(&lookup)];
+            assert_eq!(ways.iter().filter(|way| **way).count(), 1, "{lookup}");
         }
     }
 }

@@ -17,6 +17,18 @@ pub enum Port {
     Library,
 }
 
+impl Port {
+    /// Whether this way to the port answers such a question.
+    #[cfg_attr(not(feature = "library"), allow(unused_variables))]
+    pub fn has(&self, lookup: &str) -> bool {
+        match self {
+            #[cfg(feature = "library")]
+            Port::Library => !crate::library::LEFT_OUT.contains(&lookup),
+            _ => true,
+        }
+    }
+}
+
 /// What the port says about one file. `answers` is none where this way to the port has no lookups.
 pub struct Reply {
     pub listing: String,

@@ -7,7 +7,7 @@ use crate::bytes::HEADER;
 use crate::prng::Prng;
 use crate::reading::Reading;
 
-/// Every lookup, once. A library's number of a lookup is its place here.
+/// Every lookup, once.
 pub const LOOKUPS: [&str; 35] = [
     "hash", "utf8", "masked_header", "header", "tasks", "task", "program", "types", "fb_type", "field", "array",
     "array_size", "user_fb", "constants", "constant", "get_i32", "get_u32", "get_i64", "get_u64", "get_f32", "get_f64",
