@@ -113,7 +113,8 @@ fn types(out: &mut String, c: &Container) {
     }
 }
 
-fn loaded(c: &Container) -> String {
+/// The listing of a container; `kept` tells what an entry of the constant pool keeps.
+pub fn loaded(c: &Container, kept: fn(&ConstEntry) -> Vec<u8>) -> String {
     let mut out = String::new();
     let h = &c.header;
     writeln!(out, "container {} {} {}", h.format_version, h.profile, h.flags).unwrap();
@@ -140,7 +141,7 @@ fn loaded(c: &Container) -> String {
 
 pub fn listing(reading: &Reading) -> String {
     match reading {
-        Reading::Loaded(c) => loaded(c),
+        Reading::Loaded(c) => loaded(c, kept),
         Reading::Refused(line) => format!("{line}\n"),
         Reading::Panicked => "refused 4 -\n".to_string(),
         Reading::Unexpected(what) => format!("unexpected: {what}\n"),

@@ -1,0 +1,121 @@
+//! That both sides answer the same on what is measured. Otherwise nothing is measured.
+
+use ironplc_container::constant_pool::ConstEntry;
+use ironplc_container::header::FileHeader;
+use ironplc_container::Container;
+
+use crate::files::File;
+use crate::listing;
+use crate::lookups::LOOKUPS;
+use crate::port::{self, NO_NUMBERS};
+
+pub fn read(file: &[u8]) -> Container {
+    Container::read_from(&mut &file[..]).expect("the Rust loads the file")
+}
+
+/// What an entry keeps, where a number has as many bytes as its type. (The oracle's way is right for all, and slow.)
+fn kept(entry: &ConstEntry) -> Vec<u8> {
+    let mut bytes = entry.bytes().to_vec();
+    if !entry.const_type.is_string_like() {
+        bytes.resize(8, 0);
+    }
+    bytes
+}
+
+/// The Rust's listing of a file, which it reads for that.
+pub fn rust_listing(file: &[u8]) -> String {
+    listing::loaded(&read(file), kept)
+}
+
+fn header_numbers(h: &FileHeader) -> Vec<u64> {
+    let places = [
+        [h.sig_section_offset, h.sig_section_size],
+        [h.debug_sig_offset, h.debug_sig_size],
+        [h.type_section_offset, h.type_section_size],
+        [h.task_section_offset, h.task_section_size],
+        [h.const_section_offset, h.const_section_size],
+        [h.code_section_offset, h.code_section_size],
+        [h.debug_section_offset, h.debug_section_size],
+    ];
+    let runtime = [
+        h.max_stack_depth.into(),
+        h.max_call_depth.into(),
+        h.num_variables.into(),
+        h.data_region_bytes,
+        h.num_temp_bufs.into(),
+        h.max_temp_buf_bytes,
+        h.num_functions.into(),
+        h.num_fb_types.into(),
+        h.input_image_bytes.into(),
+        h.output_image_bytes.into(),
+        h.memory_image_bytes.into(),
+    ];
+    let start = [h.format_version.into(), h.profile.into(), h.flags.into()];
+    start.iter().chain(places.as_flattened()).chain(&runtime).map(|n| u64::from(*n)).collect()
+}
+
+/// What loading answers: 0, the header's numbers, the counts of tasks, types, constants and debug.
+fn load_numbers(c: &Container) -> Vec<u64> {
+    let tasks = &c.task_table;
+    let types = c.type_section.as_ref().map_or([0; 4], |t| {
+        [1, t.fb_types.len(), t.array_descriptors.len(), t.user_fb_types.len()]
+    });
+    let debug = c.debug_section.as_ref().map_or([0; 7], |d| {
+        let named = [d.line_map.len(), d.var_names.len(), d.func_names.len()];
+        let others = [d.string_layouts.len(), d.source_files.len(), d.enum_defs.len()];
+        [1, named[0], named[1], named[2], others[0], others[1], others[2]]
+    });
+    let mut counts = vec![tasks.tasks.len(), tasks.programs.len(), tasks.shared_globals_size.into()];
+    counts.extend(types);
+    counts.push(c.constant_pool.len());
+    counts.extend(debug);
+    let counts = counts.iter().map(|n| *n as u64).collect();
+    [vec![0], header_numbers(&c.header), counts].concat()
+}
+
+fn same(what: &str, file: &File, holds: bool) {
+    assert!(holds, "{what}: port and Rust differ on the file `{}` of {} bytes", file.shape, file.bytes.len());
+}
+
+/// Loading, both hashes, the listing and every entry of the tables that are looked up in.
+pub fn of_file(file: &File) {
+    let container = read(&file.bytes);
+    let mut out = NO_NUMBERS;
+    let count = port::load(&file.bytes, &mut out);
+    same("load", file, out[..count] == load_numbers(&container));
+    let mut digest = [0; 32];
+    let refused = port::content_hash(&file.bytes, &mut digest);
+    same("content hash", file, refused == 0 && digest == container.header.content_hash);
+    let mut page = vec![0; port::PAGE];
+    let length = port::list(&file.bytes, &mut page);
+    same("listing", file, page[..length] == *rust_listing(&file.bytes).as_bytes());
+    for lookup in LOOKUPS.iter().filter(|lookup| lookup.shape == file.shape) {
+        same(lookup.name, file, lookup.agrees(&file.bytes, &container));
+    }
+    let portable = container_portable::Container::read_from(&mut &file.bytes[..]).expect("it loads");
+    same("portable", file, portable.constant_pool.len() == container.constant_pool.len());
+}
+
+/// A hashed file with its last constant altered is refused with 5 by all: the hash is looked at.
+pub fn of_altered(file: &File) {
+    let header = read(&file.bytes).header;
+    let mut altered = File { shape: file.shape, bytes: file.bytes.clone() };
+    altered.bytes[(header.const_section_offset + header.const_section_size - 1) as usize] ^= 1;
+    let mut out = NO_NUMBERS;
+    let count = port::load(&altered.bytes, &mut out);
+    same("altered", &altered, out[..count] == [5]);
+    same("altered", &altered, Container::read_from(&mut &altered.bytes[..]).is_err());
+    same("altered", &altered, container_portable::Container::read_from(&mut &altered.bytes[..]).is_err());
+}
+
+pub fn of_hash(bytes: &[u8]) {
+    let mut digest = [0; 32];
+    let refused = port::hash(bytes, &mut digest);
+    assert!(refused == 0, "the port refuses to hash {} bytes: {refused}", bytes.len());
+    let others = [
+        *blake3::hash(bytes).as_bytes(),
+        *blake3_portable::hash(bytes).as_bytes(),
+        *real_default::hash(bytes).as_bytes(),
+    ];
+    assert!(others.iter().all(|other| *other == digest), "the hashes of {} bytes differ", bytes.len());
+}

@@ -1,0 +1,163 @@
+//! Port and Rust on the same files, in one program: how long loading, hashing, listing and looking up take. First it is seen
+//! that both sides answer the same.
+
+#![allow(dead_code)]
+
+mod agreement;
+mod files;
+mod lookups;
+mod port;
+mod timing;
+// The oracle's: the Rust's listing, and what it stands on.
+#[path = "../../../oracle/build/oracle/src/bytes.rs"]
+mod bytes;
+#[path = "../../../oracle/build/oracle/src/listing.rs"]
+mod listing;
+#[path = "../../../oracle/build/oracle/src/reading.rs"]
+mod reading;
+
+use std::hint::black_box;
+
+use files::File;
+use ironplc_container::Container;
+use lookups::LOOKUPS;
+use port::NO_NUMBERS;
+use timing::{least, Way};
+
+const SMALL: usize = 4_096;
+const LARGE: usize = 65_536;
+
+/// What was measured of one piece of work: the port's microseconds, and the Rust's in each build that was tried.
+struct Row {
+    what: String,
+    bytes: usize,
+    port: f64,
+    rust: Vec<(&'static str, f64)>,
+}
+
+/// The Rust's three builds of BLAKE3: as the container builds it, portable code alone, its default.
+const SSE2: &str = "SSE2";
+const PORTABLE: &str = "portable";
+const DEFAULT: &str = "default";
+
+fn port_load(file: &[u8]) -> Way<'_> {
+    let mut out = NO_NUMBERS;
+    Way::new(move || port::load(black_box(file), &mut out))
+}
+
+fn rust_load(file: &[u8]) -> Way<'_> {
+    Way::new(move || Container::read_from(&mut black_box(file)).expect("the Rust loads the file"))
+}
+
+fn portable_load(file: &[u8]) -> Way<'_> {
+    Way::new(move || container_portable::Container::read_from(&mut black_box(file)).expect("it loads"))
+}
+
+fn load(file: &File, hashed: bool) -> Row {
+    let bytes = &file.bytes[..];
+    let what = format!("load, {}, {}", if hashed { "hashed" } else { "unhashed" }, file.shape);
+    let mut ways = vec![port_load(bytes), rust_load(bytes)];
+    let mut builds = vec![if hashed { SSE2 } else { "" }];
+    if hashed {
+        ways.push(portable_load(bytes));
+        builds.push(PORTABLE);
+    }
+    row(what, bytes.len(), builds, least(ways))
+}
+
+fn hash(length: usize) -> Row {
+    let bytes: Vec<u8> = (0..length).map(|i| (i % 251) as u8).collect();
+    let bytes = &bytes[..];
+    agreement::of_hash(bytes);
+    let mut digest = [0; 32];
+    let ways = vec![
+        Way::new(move || port::hash(black_box(bytes), &mut digest)),
+        Way::new(move || blake3::hash(black_box(bytes))),
+        Way::new(move || blake3_portable::hash(black_box(bytes))),
+        Way::new(move || real_default::hash(black_box(bytes))),
+    ];
+    row("hash".to_string(), length, vec![SSE2, PORTABLE, DEFAULT], least(ways))
+}
+
+fn list(file: &File) -> Row {
+    let bytes = &file.bytes[..];
+    let mut page = vec![0; port::PAGE];
+    let ways = vec![
+        Way::new(move || port::list(black_box(bytes), &mut page)),
+        Way::new(move || agreement::rust_listing(black_box(bytes))),
+    ];
+    row(format!("listing, {}", file.shape), bytes.len(), vec![""], least(ways))
+}
+
+fn row(what: String, bytes: usize, builds: Vec<&'static str>, times: Vec<f64>) -> Row {
+    let rust = builds.into_iter().zip(times[1..].iter().copied()).collect();
+    Row { what, bytes, port: times[0], rust }
+}
+
+fn print_rows(rows: &[Row]) {
+    println!("\n| what | bytes | port µs | Rust | Rust µs | port / Rust |\n|---|---|---|---|---|---|");
+    for row in rows {
+        for (build, rust) in &row.rust {
+            let ratio = row.port / rust;
+            println!("| {} | {} | {:.2} | {build} | {rust:.2} | {ratio:.2} |", row.what, row.bytes, row.port);
+        }
+    }
+}
+
+/// How much longer the same work takes on the large file.
+fn print_growth(rows: &[Row]) {
+    println!("\n| what | size | port's time | Rust's time |\n|---|---|---|---|");
+    for small in rows.iter().filter(|row| row.bytes == SMALL) {
+        let found = rows.iter().find(|row| row.bytes == LARGE && row.what == small.what);
+        let Some(large) = found else { continue };
+        let size = LARGE as f64 / SMALL as f64;
+        let (port, rust) = (large.port / small.port, large.rust[0].1 / small.rust[0].1);
+        println!("| {} | {size:.1} | {port:.1} | {rust:.1} |", small.what);
+    }
+}
+
+/// The port's lookups. Each reads the file anew, so that loading alone stands beside them.
+fn print_lookups(files: &[File]) {
+    println!("\n| lookup | file | bytes | loading | first | middle | last |\n|---|---|---|---|---|---|---|");
+    for lookup in &LOOKUPS {
+        for file in files.iter().filter(|file| file.shape == lookup.shape) {
+            let bytes = &file.bytes[..];
+            let mut ways = vec![port_load(bytes)];
+            for (_, index) in lookup.indexes(&agreement::read(bytes)) {
+                let mut out = NO_NUMBERS;
+                ways.push(Way::new(move || port::ask(black_box(bytes), lookup.kind, index, lookup.second, &mut out)));
+            }
+            let times: Vec<String> = least(ways).iter().map(|time| format!("{time:.2}")).collect();
+            println!("| {} | {} | {} | {} |", lookup.name, file.shape, bytes.len(), times.join(" | "));
+        }
+    }
+}
+
+fn print_files(files: &[File]) {
+    println!("\n| file | bytes | tasks | FB types | arrays | constants | functions | lines | variables |");
+    println!("|---|---|---|---|---|---|---|---|---|");
+    for file in files {
+        let c = agreement::read(&file.bytes);
+        let (fb_types, arrays) = c.type_section.as_ref().map_or((0, 0), |t| (t.fb_types.len(), t.array_descriptors.len()));
+        let (lines, variables) = c.debug_section.as_ref().map_or((0, 0), |d| (d.line_map.len(), d.var_names.len()));
+        let counts = [c.task_table.tasks.len(), fb_types, arrays, c.constant_pool.len(), c.code.functions.len(), lines, variables];
+        let counts: Vec<String> = counts.iter().map(usize::to_string).collect();
+        println!("| {} | {} | {} |", file.shape, file.bytes.len(), counts.join(" | "));
+    }
+}
+
+fn main() {
+    let hashed: Vec<File> = [SMALL, LARGE].into_iter().flat_map(files::hashed).collect();
+    let unhashed: Vec<File> = hashed.iter().map(files::unhashed).collect();
+    hashed.iter().chain(&unhashed).for_each(agreement::of_file);
+    hashed.iter().for_each(agreement::of_altered);
+    println!("both sides answer the same on {} files", hashed.len() + unhashed.len());
+    print_files(&hashed);
+    let mut rows: Vec<Row> = unhashed.iter().map(|file| load(file, false)).collect();
+    rows.extend(hashed.iter().map(|file| load(file, true)));
+    rows.extend([1_024, SMALL, LARGE, 261_376].map(hash));
+    rows.extend(unhashed.iter().map(list));
+    print_rows(&rows);
+    print_growth(&rows);
+    print_lookups(&unhashed);
+}

@@ -1,0 +1,44 @@
+//! The port: the functions of the static library.
+
+unsafe extern "C" {
+    fn container_load(file: *const u8, length: usize, out: *mut u64, room: usize) -> usize;
+    fn container_ask(file: *const u8, length: usize, kind: u16, index: u16, second: u16, out: *mut u64, room: usize) -> usize;
+    fn container_content_hash(file: *const u8, length: usize, out: *mut u8, room: usize) -> usize;
+    fn container_hash(bytes: *const u8, length: usize, out: *mut u8, room: usize) -> usize;
+    fn container_list(file: *const u8, length: usize, out: *mut u8, room: usize) -> usize;
+}
+
+/// Room for the numbers of any answer.
+pub type Numbers = [u64; 64];
+
+pub const NO_NUMBERS: Numbers = [0; 64];
+
+/// Room for the text of any file.
+pub const PAGE: usize = 2_097_152;
+
+// SAFETY, of all: the library only reads the file and writes at most as much as there is room for.
+
+/// How many numbers were put: 0 and what the record has, or a refusal's number and its values.
+pub fn load(file: &[u8], out: &mut Numbers) -> usize {
+    unsafe { container_load(file.as_ptr(), file.len(), out.as_mut_ptr(), out.len()) }
+}
+
+/// The same of a lookup.
+pub fn ask(file: &[u8], kind: u16, index: u16, second: u16, out: &mut Numbers) -> usize {
+    unsafe { container_ask(file.as_ptr(), file.len(), kind, index, second, out.as_mut_ptr(), out.len()) }
+}
+
+/// A refusal's number, or 0.
+pub fn content_hash(file: &[u8], out: &mut [u8; 32]) -> usize {
+    unsafe { container_content_hash(file.as_ptr(), file.len(), out.as_mut_ptr(), out.len()) }
+}
+
+/// A refusal's number, or 0.
+pub fn hash(bytes: &[u8], out: &mut [u8; 32]) -> usize {
+    unsafe { container_hash(bytes.as_ptr(), bytes.len(), out.as_mut_ptr(), out.len()) }
+}
+
+/// The length of the listing.
+pub fn list(file: &[u8], out: &mut [u8]) -> usize {
+    unsafe { container_list(file.as_ptr(), file.len(), out.as_mut_ptr(), out.len()) }
+}
