@@ -1,10 +1,9 @@
--- The numbers of a refusal and of a lookup by its kind; what is answered for a file that is refused or read.
+-- The numbers of a lookup by its kind; what is answered for a file that is refused or read.
 use Prim.Native.Nat.{ℕ, _+_, _≤_}
 use mathlib.Core.Path.{_≡_, sym}
 use mathlib.Core.List.{List, [], _∷_}
 use native.Mathlib.Omega.{arith}
-use lib.ListN.{take, getD, List·getD-eq-default}
-use lib.Seq.{take-all}
+use lib.ListN.{getD, List·getD-eq-default}
 use Rattle.reading.specs.Answer.{refused, found}
 use Rattle.format.specs.Record.{Container, readFrom}
 use Rattle.base.specs.Error.{faultOf}
@@ -16,19 +15,9 @@ use Rattle.record.specs.declared.Container as code
 use Rattle.container.specs.Answers.{containerFrom}
 use Rattle.container.specs.declared.ContainerAnswer.{ContainerAnswer}
 use Rattle.container.specs.declared.ContainerAnswer.the-variants as answer
-use Rattle.capi.specs.Asked.{refusalNumbers, lookups, lookedUp, asked, loaded, contentHash}
-use Rattle.capi.specs.Fields.{recordNumbers}
-
--- the values by their count: `vs` are the first k of two
-module _ (k a b : ℕ) {vs : List ℕ} (is : take k (a ∷ b ∷ []) ≡ vs) where
-  pub no-value : k ≡ 0 → [] ≡ vs
-  no-value e = rw (← is, e)
-
-  pub one-value : k ≡ 1 → a ∷ [] ≡ vs
-  one-value e = rw (← is, e)
-
-  pub two-values : (k ≡ 0 → ⊥) → (k ≡ 1 → ⊥) → a ∷ b ∷ [] ≡ vs
-  two-values h h′ = rw (← is, take-all k (a ∷ b ∷ []) (omega arith))
+use Rattle.capi.specs.Asked.{lookups, lookedUp, asked, loaded, contentHash}
+use Rattle.capi.specs.Loaded.{recordNumbers}
+use Rattle.answer_numbers.specs.Fields.{refusalNumbers}
 
 -- the lookup of the kind k; and a kind that is none
 module _ (f : List ℕ) (c : Container) where

@@ -1,4 +1,2 @@
 pub mod Asking
 pub mod Saying
-pub mod Words
-pub mod Signs

@@ -1,23 +1,13 @@
--- What the library answers in numbers: a refusal's number and values (document 01, "A refusal carries its number and the value named, nothing else"),
--- or 0 and the answer's numbers.
+-- What the library answers in numbers: a refusal's number and values, or 0 and the answer's numbers.
 use Prim.Native.Nat.{ℕ}
 use mathlib.Core.List.{List, [], _∷_}
 use lib.ListN.{getD}
-use Rattle.reading.specs.Fault.{Fault}
 use Rattle.reading.specs.Answer.{Got, refused, found, _>>=_}
 use Rattle.format.specs.Record.{Container, readFrom}
 use Rattle.format.specs.Lookups.{runAnswers, debugAnswers}
-use Rattle.base.specs.Error.{numberOf, valuesOf}
 use Rattle.blake3.specs.Blake3.{blake3}
-use Rattle.capi.specs.Fields.{valueNumbers, partNumbers, signedNumbers, taskNumbers, programNumbers, fbTypeNumbers, fieldNumbers, arrayNumbers, userFbNumbers, constantNumbers, functionNumbers, lineNumbers, variableNumbers, functionNameNumbers, layoutNumbers, sourceNumbers, enumerationNumbers, recordNumbers}
-
-abbrev pub refusalNumbers : Fault → List ℕ
-refusalNumbers f = numberOf f ∷ valuesOf f
-
--- an answer whose numbers `list` gives
-abbrev pub answered : {A : Type 0} → (A → List ℕ) → Got A → List ℕ
-answered list (refused f) = refusalNumbers f
-answered list (found a) = 0 ∷ list a
+use Rattle.answer_numbers.specs.Fields.{refusalNumbers, answered, valueNumbers, partNumbers, signedNumbers, taskNumbers, programNumbers, fbTypeNumbers, fieldNumbers, arrayNumbers, userFbNumbers, constantNumbers, functionNumbers, lineNumbers, variableNumbers, functionNameNumbers, layoutNumbers, sourceNumbers, enumerationNumbers}
+use Rattle.capi.specs.Loaded.{recordNumbers}
 
 -- Every lookup over a file and a record, with the indexes i and j. A lookup's place in this list is its kind
 unfoldable pub lookups : List ℕ → Container → ℕ → ℕ → List (List ℕ)

@@ -1,4 +1,3 @@
-pub mod Fields
+pub mod Loaded
 pub mod Asked
 pub mod Lent
-pub mod Answers

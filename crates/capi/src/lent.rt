@@ -5,9 +5,9 @@ ghost use mathlib.Core.List.{_++_};
 ghost use lib.ListN.{length, drop};
 ghost use Rattle.base.specs.Digest.{digestBytes};
 ghost use Rattle.text.specs.Text.{Wrote};
-ghost use Rattle.capi.specs.Answers.{listed};
+ghost use Rattle.answer_numbers.specs.Answers.{listed};
 ghost use Rattle.capi.specs.Lent.{Said};
-use crate::numbers::Numbers;
+use answer_numbers::Numbers;
 use base::digest::Digest;
 use text::put_bytes;
 

@@ -4,13 +4,12 @@
 mod lent;
 mod loading;
 mod lookup;
-mod numbers;
 
 ghost use mathlib.Core.Path.{_≡_};
 ghost use Rattle.blake3.specs.Blake3.{hashAsked};
 ghost use Rattle.file_text.specs.Texts.{fileListing};
 ghost use Rattle.file_text.specs.Texts as texts;
-ghost use Rattle.capi.specs.Answers.{listed};
+ghost use Rattle.answer_numbers.specs.Answers.{listed};
 ghost use Rattle.capi.specs.Asked.{asked, loaded, contentHash};
 ghost use Rattle.capi.specs.Lent.{Said, Told, Listed};
 use crate::lent::ROOM;
@@ -18,8 +17,8 @@ use crate::lent::put_digest;
 use crate::lent::say;
 use crate::loading::put_record;
 use crate::lookup::lookup;
-use crate::numbers::Numbers;
-use crate::numbers::refusal;
+use answer_numbers::Numbers;
+use answer_numbers::refusal;
 use blake3::HashAnswer;
 use container::ContainerAnswer;
 use container::read_from;

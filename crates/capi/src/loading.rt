@@ -8,7 +8,7 @@ ghost use Rattle.header.specs.Answers.{headerIn, directoryIn, runtimeIn};
 ghost use Rattle.record.specs.Answers.{maybeTypes, containerIn};
 ghost use Rattle.task_table.specs.Answers.{countsIn};
 ghost use Rattle.text.specs.Text.{Wrote};
-ghost use Rattle.capi.specs.Fields.{headNumbers, directoryNumbers, runtimeNumbers, taskCountNumbers, typeCountNumbers, debugCountNumbers, headerNumbers, recordNumbers};
+ghost use Rattle.capi.specs.Loaded.{headNumbers, directoryNumbers, runtimeNumbers, taskCountNumbers, typeCountNumbers, debugCountNumbers, headerNumbers, recordNumbers};
 ghost use Rattle.capi.specs.Lent.{room};
 use crate::lent::put;
 use container::Container;

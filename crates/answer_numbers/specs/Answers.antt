@@ -1,0 +1,8 @@
+-- What the code's numbers mean.
+use Prim.Native.Nat.{ℕ}
+use mathlib.Core.List.{List}
+use lib.ListN.{take}
+use Rattle.answer_numbers.specs.declared.Numbers.{Numbers}
+
+abbrev pub listed : Numbers → List ℕ
+listed n = take (n .count) (n .numbers)
