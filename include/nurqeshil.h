@@ -1,0 +1,90 @@
+/* Nurqeshil: a verified reader for IronPLC bytecode containers, as a static library.
+ *
+ *     rt staticlib capi           builds target/staticlib/libcapi.a
+ *     cc main.c libcapi.a
+ *
+ * Every function reads the file anew and keeps nothing. None asks anything of the bytes: any file is answered, by what was asked for
+ * or by a refusal's number (the table is in README.md). Pointers must not be null, also where a length or a room is 0, and a buffer
+ * `out` must not overlap the bytes that are read.
+ *
+ * Answers in numbers. `out` then starts with 0 and the answer's numbers, or with a refusal's number and its values, and the function
+ * answers how many; what stands behind them is left as it was. `room` counts numbers, and with room for less than
+ * CONTAINER_ROOM nothing is written and the answer is 0.
+ */
+#ifndef NURQESHIL_H
+#define NURQESHIL_H
+
+#include <stddef.h>
+#include <stdint.h>
+
+#ifdef __cplusplus
+extern "C" {
+#endif
+
+#define CONTAINER_ROOM 64    /* numbers that `out` must have room for */
+#define CONTAINER_LOADED 44  /* numbers of a file that loads */
+#define CONTAINER_DIGEST 32  /* bytes of a hash */
+#define CONTAINER_NO_ROOM 255 /* a hash does not fit; no refusal has this number */
+
+/* Loads a file. Behind the 0: version, profile, flags; offset and size of signature, debug signature, types, tasks, constants,
+ * code, debug; stack depth, call depth, variables, data region bytes, temporary buffers, their bytes, functions, FB types,
+ * input, output and memory image bytes; tasks, programs, shared globals size; 1 if there are types, FB types, arrays, user FBs;
+ * constants; 1 if there is debug, lines, variables, functions, strings, files, enumerations. Counts of what is not there are 0. */
+size_t container_load(const uint8_t *file, size_t length, uint64_t *out, size_t room);
+
+/* The kinds of lookup, with the answer's numbers. Each takes `index`; those marked (i, j) take `second`, too.
+ * A part is two numbers, its place in the file and its length. */
+enum container_kind {
+    CONTAINER_TASK = 0,               /* id, priority, type, flags, interval, single variable, watchdog, input and output image
+                                         offset, the 4 reserved bytes as one number */
+    CONTAINER_PROGRAM = 1,            /* instance, task, entry function, variable offset and count, FB instance offset and count,
+                                         init function */
+    CONTAINER_FB_TYPE = 2,            /* id, field count */
+    CONTAINER_FIELD = 3,              /* (FB type, field): type, extra */
+    CONTAINER_ARRAY = 4,              /* type, elements, extra, stride */
+    CONTAINER_ARRAY_SIZE = 5,         /* bytes */
+    CONTAINER_USER_FB = 6,            /* type id, function, variable offset, fields */
+    CONTAINER_CONSTANT = 7,           /* type; of types 0 to 5 the eight kept bytes as one number, of 6 and 7 a part */
+    CONTAINER_GET_I32 = 8,            /* the value as 64 bits of two's complement: cast it to int64_t */
+    CONTAINER_GET_U32 = 9,            /* the value */
+    CONTAINER_GET_I64 = 10,           /* the value, to be cast to int64_t */
+    CONTAINER_GET_U64 = 11,           /* the value */
+    CONTAINER_GET_F32 = 12,           /* the bits */
+    CONTAINER_GET_F64 = 13,           /* the bits */
+    CONTAINER_GET_STR = 14,           /* a part */
+    CONTAINER_CHAR_WIDTH = 15,        /* 1 or 2 */
+    CONTAINER_FUNCTION = 16,          /* the stored id, offset, length, stack, locals, parameters */
+    CONTAINER_BYTECODE = 17,          /* a part */
+    CONTAINER_LINE = 18,              /* (function, offset in its bytecode): function, offset, file, line, column */
+    CONTAINER_LINE_ENTRY = 19,        /* the same of an entry of the line map */
+    CONTAINER_VARIABLE = 20,          /* index, function, section, type, the name's part, the type name's part */
+    CONTAINER_FUNCTION_NAME = 21,     /* id, the name's part */
+    CONTAINER_STRING_LAYOUT = 22,     /* variable, data offset, length */
+    CONTAINER_SOURCE_FILE = 23,       /* the path's part, the 32 bytes of its hash as four numbers */
+    CONTAINER_ENUMERATION = 24,       /* the name's part, value count */
+    CONTAINER_ENUMERATION_VALUE = 25  /* (enumeration, value): the name's part */
+};
+
+/* Asks a lookup of a file that loads; a file that does not load answers its refusal. Bytes that are one number stand low byte
+ * first in it. An unknown kind has no numbers: the answer is 0. */
+size_t container_ask(const uint8_t *file, size_t length, uint16_t kind, uint16_t index, uint16_t second, uint64_t *out, size_t room);
+
+/* The same as container_ask of CONTAINER_LINE. */
+size_t container_line(const uint8_t *file, size_t length, uint16_t function, uint16_t offset, uint64_t *out, size_t room);
+
+/* The content hash in the header of a file that loads: 0, with 32 bytes at the start of `out` and the rest as it was; or a
+ * refusal's number; or CONTAINER_NO_ROOM if `room`, in bytes, is less than 32. Only with 0 anything is written. */
+size_t container_content_hash(const uint8_t *file, size_t length, uint8_t *out, size_t room);
+
+/* BLAKE3 of any bytes, in the same way; 10 if they are more than 261,376. */
+size_t container_hash(const uint8_t *bytes, size_t length, uint8_t *out, size_t room);
+
+/* Lists a file, as the lister does: the text stands at the start of `out`, and its length is answered. With too little room the
+ * answer is 0, and `out` may hold anything. Room for the text, 200 bytes and twice the length of the file is enough. */
+size_t container_list(const uint8_t *file, size_t length, uint8_t *out, size_t room);
+
+#ifdef __cplusplus
+}
+#endif
+
+#endif
