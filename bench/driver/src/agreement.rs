@@ -54,6 +54,18 @@ fn header_numbers(h: &FileHeader) -> Vec<u64> {
     start.iter().chain(places.as_flattened()).chain(&runtime).map(|n| u64::from(*n)).collect()
 }
 
+/// How many entries the tables have.
+pub fn entries(file: &[u8]) -> usize {
+    let c = read(file);
+    let types = c.type_section.map_or(0, |t| t.fb_types.len() + t.array_descriptors.len() + t.user_fb_types.len());
+    let debug = c.debug_section.map_or(0, |d| {
+        let named = d.var_names.len() + d.func_names.len() + d.enum_defs.len();
+        named + d.line_map.len() + d.string_layouts.len() + d.source_files.len()
+    });
+    let run = c.task_table.tasks.len() + c.task_table.programs.len() + c.constant_pool.len() + c.code.functions.len();
+    run + types + debug
+}
+
 /// What loading answers: 0, the header's numbers, the counts of tasks, types, constants and debug.
 fn load_numbers(c: &Container) -> Vec<u64> {
     let tasks = &c.task_table;

@@ -1,4 +1,4 @@
-//! The files: two shapes, made by the Rust's own writer, of a given length.
+//! The files: four shapes, made by the Rust's own writer, of a given length.
 
 use ironplc_container::code_section::CodeSection;
 use ironplc_container::constant_pool::{ConstEntry, ConstantPool};
@@ -14,6 +14,11 @@ pub struct File {
     pub shape: &'static str,
     pub bytes: Vec<u8>,
 }
+
+pub const PROGRAM: &str = "program";
+pub const SHORT_CONSTANTS: &str = "constants of 4 bytes";
+pub const LONG_CONSTANTS: &str = "constants of 8 bytes";
+pub const TEXTS: &str = "names of 250 bytes";
 
 const FUNCTIONS: usize = 2;
 const BYTECODE: usize = 96;
@@ -172,20 +177,43 @@ fn program(units: usize, more: usize) -> Container {
     }
 }
 
-/// One task, one function, and 16 four-byte constants for each unit: as many entries as a usual pool of that size can have.
-fn constants(units: usize, more: usize) -> Container {
-    let mut pool = ConstantPool::default();
-    for i in 0..16 * units {
-        pool.push(ConstEntry::i32(i as i32));
-    }
+/// One task, one function, and what one section is filled with.
+fn filled(constant_pool: ConstantPool, debug_section: Option<DebugSection>, more: usize) -> Container {
     Container {
         header: FileHeader::default(),
         task_table: tasks(1),
         type_section: None,
-        constant_pool: pool,
+        constant_pool,
         code: code(1, more),
-        debug_section: None,
+        debug_section,
     }
+}
+
+fn pool(count: usize, entry: fn(usize) -> ConstEntry) -> ConstantPool {
+    let mut pool = ConstantPool::default();
+    (0..count).for_each(|i| pool.push(entry(i)));
+    pool
+}
+
+/// 16 constants of four bytes for each unit.
+fn short_constants(units: usize, more: usize) -> Container {
+    filled(pool(16 * units, |i| ConstEntry::i32(i as i32)), None, more)
+}
+
+/// 16 constants of eight bytes for each unit.
+fn long_constants(units: usize, more: usize) -> Container {
+    filled(pool(16 * units, |i| ConstEntry::i64(i as i64)), None, more)
+}
+
+/// A variable with names of 250 bytes for each unit: nearly all is text.
+fn texts(units: usize, more: usize) -> Container {
+    let named = |i: usize| VarNameEntry {
+        name: format!("{i:0250}"),
+        type_name: "T".repeat(250),
+        ..variable(i)
+    };
+    let debug = DebugSection { var_names: (0..units).map(named).collect(), ..DebugSection::default() };
+    filled(ConstantPool::default(), Some(debug), more)
 }
 
 fn written(container: &Container) -> Vec<u8> {
@@ -204,11 +232,13 @@ fn fitted(length: usize, make: fn(usize, usize) -> Container) -> Vec<u8> {
     written(&make(units, more))
 }
 
-/// The two shapes at a length, hashed as the writer hashes them.
-pub fn hashed(length: usize) -> [File; 2] {
+/// The shapes at a length, hashed as the writer hashes them.
+pub fn hashed(length: usize) -> [File; 4] {
     [
-        File { shape: "program", bytes: fitted(length, program) },
-        File { shape: "constants", bytes: fitted(length, constants) },
+        File { shape: PROGRAM, bytes: fitted(length, program) },
+        File { shape: SHORT_CONSTANTS, bytes: fitted(length, short_constants) },
+        File { shape: LONG_CONSTANTS, bytes: fitted(length, long_constants) },
+        File { shape: TEXTS, bytes: fitted(length, texts) },
     ]
 }
 

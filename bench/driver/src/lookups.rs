@@ -4,6 +4,7 @@ use ironplc_container::debug_section::{LineMapEntry, VarNameEntry};
 use ironplc_container::id_types::{ConstantIndex, FunctionId};
 use ironplc_container::Container;
 
+use crate::files::{PROGRAM, SHORT_CONSTANTS};
 use crate::port::{self, Numbers, NO_NUMBERS};
 
 /// A lookup in a table of a file of that shape. `second` is the offset of a line lookup.
@@ -17,11 +18,11 @@ pub struct Lookup {
 }
 
 pub const LOOKUPS: [Lookup; 5] = [
-    Lookup { name: "get_i32", shape: "constants", kind: 8, second: 0, count: constants, expected: get_i32 },
-    Lookup { name: "array", shape: "program", kind: 4, second: 0, count: arrays, expected: array },
-    Lookup { name: "function", shape: "program", kind: 16, second: 0, count: functions, expected: function },
-    Lookup { name: "line", shape: "program", kind: 18, second: 50, count: functions, expected: line },
-    Lookup { name: "variable", shape: "program", kind: 20, second: 0, count: variables, expected: variable },
+    Lookup { name: "get_i32", shape: SHORT_CONSTANTS, kind: 8, second: 0, count: constants, expected: get_i32 },
+    Lookup { name: "array", shape: PROGRAM, kind: 4, second: 0, count: arrays, expected: array },
+    Lookup { name: "function", shape: PROGRAM, kind: 16, second: 0, count: functions, expected: function },
+    Lookup { name: "line", shape: PROGRAM, kind: 18, second: 50, count: functions, expected: line },
+    Lookup { name: "variable", shape: PROGRAM, kind: 20, second: 0, count: variables, expected: variable },
 ];
 
 impl Lookup {

@@ -31,6 +31,7 @@ const LARGE: usize = 65_536;
 struct Row {
     what: String,
     bytes: usize,
+    entries: Option<usize>,
     port: f64,
     rust: Vec<(&'static str, f64)>,
 }
@@ -62,7 +63,7 @@ fn load(file: &File, hashed: bool) -> Row {
         ways.push(portable_load(bytes));
         builds.push(PORTABLE);
     }
-    row(what, bytes.len(), builds, least(ways))
+    row(what, bytes.len(), Some(agreement::entries(bytes)), builds, least(ways))
 }
 
 fn hash(length: usize) -> Row {
@@ -76,7 +77,7 @@ fn hash(length: usize) -> Row {
         Way::new(move || blake3_portable::hash(black_box(bytes))),
         Way::new(move || real_default::hash(black_box(bytes))),
     ];
-    row("hash".to_string(), length, vec![SSE2, PORTABLE, DEFAULT], least(ways))
+    row("hash".to_string(), length, None, vec![SSE2, PORTABLE, DEFAULT], least(ways))
 }
 
 fn list(file: &File) -> Row {
@@ -86,12 +87,12 @@ fn list(file: &File) -> Row {
         Way::new(move || port::list(black_box(bytes), &mut page)),
         Way::new(move || agreement::rust_listing(black_box(bytes))),
     ];
-    row(format!("listing, {}", file.shape), bytes.len(), vec![""], least(ways))
+    row(format!("listing, {}", file.shape), bytes.len(), Some(agreement::entries(bytes)), vec![""], least(ways))
 }
 
-fn row(what: String, bytes: usize, builds: Vec<&'static str>, times: Vec<f64>) -> Row {
+fn row(what: String, bytes: usize, entries: Option<usize>, builds: Vec<&'static str>, times: Vec<f64>) -> Row {
     let rust = builds.into_iter().zip(times[1..].iter().copied()).collect();
-    Row { what, bytes, port: times[0], rust }
+    Row { what, bytes, entries, port: times[0], rust }
 }
 
 fn print_rows(rows: &[Row]) {
@@ -106,13 +107,15 @@ fn print_rows(rows: &[Row]) {
 
 /// How much longer the same work takes on the large file.
 fn print_growth(rows: &[Row]) {
-    println!("\n| what | size | port's time | Rust's time |\n|---|---|---|---|");
+    println!("\n| what | bytes grow by | entries by | port's time by | Rust's time by |\n|---|---|---|---|---|");
     for small in rows.iter().filter(|row| row.bytes == SMALL) {
         let found = rows.iter().find(|row| row.bytes == LARGE && row.what == small.what);
         let Some(large) = found else { continue };
-        let size = LARGE as f64 / SMALL as f64;
-        let (port, rust) = (large.port / small.port, large.rust[0].1 / small.rust[0].1);
-        println!("| {} | {size:.1} | {port:.1} | {rust:.1} |", small.what);
+        let (bytes, port) = (LARGE as f64 / SMALL as f64, large.port / small.port);
+        let rust = large.rust[0].1 / small.rust[0].1;
+        let pair = small.entries.zip(large.entries);
+        let entries = pair.map_or("-".to_string(), |(few, many)| format!("{:.1}", many as f64 / few as f64));
+        println!("| {} | {bytes:.1} | {entries} | {port:.1} | {rust:.1} |", small.what);
     }
 }
 
