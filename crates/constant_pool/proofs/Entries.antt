@@ -3,13 +3,12 @@ use mathlib.Core.Path.{_≡_, refl, sym, ap, _∙_}
 use mathlib.Core.Bool.{Bool, true, false, not}
 use mathlib.Core.List.{List}
 use Prim.Native.Nat.{ℕ, _+_, _-_, _≤_, _<_}
-use native.Mathlib.Nat.{add-sub-cancel-left}
 use native.Mathlib.Omega.{arith}
 use borrow.Author.Tests.{leb-true}
 use lib.Dec.{leb}
-use lib.ListN.{length, take, drop, length-drop}
+use lib.ListN.{length, drop, length-drop}
 use Rattle.reading.specs.Fault.{Fault, shortInput}
-use Rattle.reading.specs.Numbers.{le, leAt, bytesLe}
+use Rattle.reading.specs.Numbers.{leAt, bytesLe}
 use Rattle.reading.specs.Reader.{fault, got, Reader, _>>=_, _>>_, give, check, left, bytes}
 use Rattle.reading.specs.Answer.{refused, found}
 use Rattle.reading.proofs.Reading.{number-at, bytes-at, bytes-short}
@@ -101,11 +100,10 @@ module _ (kind size : ℕ) (z : Bool) (e : z ≡ not (isNumber kind)) where
         let o : base + length s - (length s - (at + size)) - size ≡ base + at = omega arith in
         rw (turned (isNumber kind) z e, h, m, o)
 
-    pub number-kept : (n : ℕ) → Bytes s → z ≡ false → sizeFits kind size ≡ true → n ≡ le (take (at + size - at) (drop at s))
+    pub number-kept : (n : ℕ) → Bytes s → z ≡ false → sizeFits kind size ≡ true → n ≡ leAt size s at
         → number (bytesLe 8 n) ≡ keptOver base s kind at size
     unfolding keptOf
     number-kept n b h f p =
         let m = length-part s at size l in
         let k = leb-true size 8 (fits-number h ∙ f) in
-        let q : n ≡ le (part at size s) = p ∙ rw add-sub-cancel-left in
-        rw (turned (isNumber kind) z e, h) (ap number (ap (bytesLe 8) q ∙ bytes-filled 8 (part at size s) (bytes-part s at size b) (omega arith)))
+        rw (turned (isNumber kind) z e, h) (ap number (ap (bytesLe 8) p ∙ bytes-filled 8 (part at size s) (bytes-part s at size b) (omega arith)))

@@ -3,7 +3,7 @@ ghost use mathlib.Core.Path.{_≡_};
 ghost use mathlib.Core.Bool.{true};
 ghost use Prim.Native.Nat.{_+_, _^_, _≤_, _<_};
 ghost use lib.ListN.{length};
-ghost use Rattle.reading.specs.Numbers.{le};
+ghost use Rattle.reading.specs.Numbers.{le, leAt};
 ghost use Rattle.reading.specs.Reader.{many};
 ghost use Rattle.reading.specs.Places.{Reads, Goes, stepOf};
 ghost use Rattle.format.specs.Constants.{sizeFits, signed};
@@ -27,6 +27,8 @@ use base::section::section_part;
 use reading::Table;
 use reading::u8_at;
 use reading::u16_at;
+use reading::u32_at;
+use reading::u64_at;
 
 // An entry's type, width tag and size.
 const HEAD_SIZE: usize = 4;
@@ -107,6 +109,20 @@ fn le_of(b: &[u8]) -> u64
     n
 }
 
+// The number of `size` bytes at the place `at`. Those of eight and of four bytes, the usual ones, need no loop.
+fn number_at(s: &[u8], at: usize, size: usize) -> u64
+    requires { ⌜ (at + size ≤ length (now s)) × (size ≤ 8) ⌝ }
+    ensures { λ r. ⌜ r ≡ leAt size (now (s .entry)) at ⌝ }
+{
+    if size == 8 {
+        return u64_at(s, at);
+    }
+    if size == 4 {
+        return u32_at(s, at) as u64;
+    }
+    le_of(&s[at..at + size])
+}
+
 // A number has at most eight bytes.
 fn size_fits(const_type: ConstType, size: usize) -> bool
     ensures { λ r. ⌜ r ≡ sizeFits (constTypeNumber «const_type») size ⌝ }
@@ -129,7 +145,7 @@ fn kept_at(s: &[u8], base: usize, at: usize, const_type: ConstType, size: usize)
             size,
         });
     }
-    Kept::Number(le_of(&s[at..at + size]))
+    Kept::Number(number_at(s, at, size))
 }
 
 // The entry at the place `at` of the section `s`, which starts at `base` of the file.
