@@ -11,7 +11,7 @@ use ironplc_container::{Container, ContainerError};
 use crate::bytes::hex;
 use crate::listing;
 use crate::questions::Question;
-use crate::reading::{refusal, Reading};
+use crate::reading::{refusal, Reading, HASH_LIMIT};
 
 type Answer = Result<String, String>;
 
@@ -222,6 +222,7 @@ fn loaded(c: &Container, q: &Question) -> Answer {
 /// The line of an answer: the question's text, a colon, the answer.
 pub fn answer(file: &[u8], reading: &Reading, q: &Question) -> String {
     let said = match (q.lookup, reading) {
+        ("hash", _) if part(file, q).len() > HASH_LIMIT => refused(10),
         ("hash", _) => Ok(hex(blake3::hash(part(file, q)).as_bytes())),
         ("utf8", _) => Ok(good_start(part(file, q)).to_string()),
         ("masked_header", _) => {

@@ -15,6 +15,9 @@ use crate::bytes::*;
 /// Document 01: over 65,536 bytes gives 10 (added).
 pub const LIMIT: usize = 65_536;
 
+/// Document 01: a hash asked alone over 261,376 bytes gives 10, too (added).
+pub const HASH_LIMIT: usize = 261_376;
+
 pub enum Reading {
     Loaded(Box<Container>),
     Refused(String),
