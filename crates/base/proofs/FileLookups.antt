@@ -1,18 +1,18 @@
 -- Lookups over a file and a section's place in it, from what the section's part of the file is and from the same lookup over the section's
 -- bytes; one step of a walk; the place of a part of a section; the bytes of an answered part.
 use mathlib.Core.Path.{_≡_, refl, sym, ap, _∙_}
-use mathlib.Core.Bool.{Bool, true, false}
+use mathlib.Core.Bool.{Bool, true, false, cond}
 use mathlib.Core.List.{List, []}
 use Prim.Native.Nat.{ℕ, _+_, _-_, _≤_, _<_}
 use native.Mathlib.Nat.{add-sub-cancel-left}
 use native.Mathlib.Omega.{arith}
-use lib.Dec.{leb}
+use lib.Dec.{leb, eqb}
 use lib.ListN.{length, take, drop, length-drop}
 use borrow.Author.Tests.{eq-eqb, ne-eqb}
 use Rattle.reading.specs.Fault.{Fault, shortInput}
-use Rattle.reading.specs.Reader.{fault, got, Reader}
+use Rattle.reading.specs.Reader.{Read, fault, got, Reader}
 use Rattle.reading.specs.Answer.{Got, refused, found, _>>=_, need, itemOf}
-use Rattle.reading.specs.Places.{Next, ends, faulty, entry, stepOf}
+use Rattle.reading.specs.Places.{Next, ends, faulty, entry, nextOf, stepOf}
 use Rattle.reading.specs.declared.Table.{Table}
 use Rattle.reading.proofs.Width.{Needs, needs-at}
 use Rattle.format.specs.Faults.{tooLong, sectionSizeMismatch}
@@ -20,7 +20,7 @@ use Rattle.format.specs.Parts.{limit, Place, cut, isInside, Inside, byPlace}
 use Rattle.format.specs.Integrity.{sectionIn}
 use Rattle.format.specs.Load.{readIn}
 use Rattle.format.specs.Lookups.{readAt}
-use Rattle.format.proofs.Answers.{never}
+use Rattle.format.proofs.Answers.{never, refused-then, refused-first, found-first}
 use Rattle.format.proofs.Places.{inside-is}
 use Rattle.base.specs.Section.{sectionPart, stepBy, stepIn, bytesOr}
 use Rattle.base.proofs.Sections.{section-refused, section-found}
@@ -34,18 +34,6 @@ slice-is f q = rw add-sub-cancel-left
 
 -- an answer, by what another that begins alike answers
 module _ {A : Type 0} where
-  then-refused : {B C : Type 0} (g : A → Got B) (h : A → B → Got C) {e : Fault} (x : Got A) → refused e ≡ (x >>= g) → refused e ≡ (x >>= λ a. g a >>= h a)
-  then-refused g h (refused d) k = cc
-  then-refused g h (found a) k = rw (← k)
-
-  then-found : {B C : Type 0} (g : A → Got B) (h : B → Got C) {b : B} (x : Got A) → found b ≡ (x >>= g) → h b ≡ (x >>= λ a. g a >>= h)
-  then-found g h (refused d) k = never (sym k)
-  then-found g h (found a) k = rw (← k)
-
-  other-refused : {B C : Type 0} (m : A → B) (go : A → Got C) {e : Fault} (x : Got A) → refused e ≡ (x >>= λ a. found (m a)) → refused e ≡ (x >>= go)
-  other-refused m go (refused d) k = cc
-  other-refused m go (found a) k = never k
-
   other-found : {B C : Type 0} (m : A → B) (c : C) {b : B} (x : Got A) → found b ≡ (x >>= λ a. found (m a)) → found c ≡ (x >>= λ a. found c)
   other-found m c (refused d) k = never (sym k)
   other-found m c (found a) k = refl
@@ -78,14 +66,14 @@ module _ (f : List ℕ) (p : Place) where
 
     -- a lookup that goes on where another one ends
     pub getter-refused : {C : Type 0} (h : A → B → Got C) {e : Fault} → refused e ≡ (readAt f p r >>= go) → refused e ≡ (readAt f p r >>= λ a. go a >>= h a)
-    getter-refused h k = then-refused go h (readAt f p r) k
+    getter-refused h k = refused-first (readAt f p r) go h _ (sym k)
 
     pub getter-found : {C : Type 0} (h : B → Got C) {b : B} → found b ≡ (readAt f p r >>= go) → h b ≡ (readAt f p r >>= λ a. go a >>= h)
-    getter-found h k = then-found go h (readAt f p r) k
+    getter-found h k = found-first (readAt f p r) go h _ (sym k)
 
     -- where a walk starts, by whether the section reads
     pub start-refused : {C : Type 0} (m : A → C) {q : Place} {e : Fault} → found q ≡ sectionPart f p → refused e ≡ (itemOf (r (sliced f q)) >>= λ a. found (m a)) → refused e ≡ (readAt f p r >>= go)
-    start-refused m {q} h k = lookup-found h (other-refused m go (itemOf (r (sliced f q))) k)
+    start-refused m {q} h k = lookup-found h (refused-then (itemOf (r (sliced f q))) m go _ k)
 
   pub start-good : {A B C : Type 0} (r : Reader A) (m : A → C) {q : Place} {b : B} {c : C} → found q ≡ sectionPart f p → found c ≡ (itemOf (r (sliced f q)) >>= λ a. found (m a)) → found b ≡ (readAt f p r >>= λ a. found b)
   start-good r m {q} {b} h k = lookup-found r (λ a. found b) h (other-found m b (itemOf (r (sliced f q))) k)
@@ -132,3 +120,13 @@ module _ {A : Type 0} (r : Reader A) (s : List ℕ) (t : Table) where
       let d = length-drop m s in
       let n : length s - length (drop m s) ≡ m = omega arith in
       rw (ne-eqb (t .count) 0 h, k, n)
+
+  -- a step over an entry leaves one entry fewer
+  pub step-count : {a : A} {u : Table} → stepOf r s t ≡ entry a u → u .count ≡ t .count - 1
+  unfolding stepOf
+  step-count {a} {u} e = go (eqb (t .count) 0) (r (drop (t .at) s)) e
+    where
+      go : (z : Bool) (y : Read A) → cond z ends (nextOf s t y) ≡ entry a u → u .count ≡ t .count - 1
+      go true y e = absurd (let z : _≡_ {A = ℕ} 0 1 = cc in omega arith)
+      go false (fault f) e = absurd (let z : _≡_ {A = ℕ} 0 1 = cc in omega arith)
+      go false (got b x) e = let z : record { at = length s - length x; count = t .count - 1 } ≡ u = cc in sym (ap (λ (v : Table). v .count) z)

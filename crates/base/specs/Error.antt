@@ -29,13 +29,13 @@ faultOf e.SizeOverflow = sizeOverflow
 faultOf e.NoEntry = noEntry
 
 -- a refusal's number and values; a bad text has neither, and no `ContainerError` is one
-abbrev pub numberOf : Fault → ℕ
-numberOf (refusal n vs) = n
-numberOf (badText behind) = 0
+abbrev pub refusalNumber : Fault → ℕ
+refusalNumber (refusal n vs) = n
+refusalNumber (badText behind) = 0
 
-abbrev pub valuesOf : Fault → List ℕ
-valuesOf (refusal n vs) = vs
-valuesOf (badText behind) = []
+abbrev pub refusalValues : Fault → List ℕ
+refusalValues (refusal n vs) = vs
+refusalValues (badText behind) = []
 
 -- the values of the code as a list
 abbrev pub listed : Values → List ℕ

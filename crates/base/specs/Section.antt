@@ -34,7 +34,7 @@ abbrev pub partFrom : PartAnswer → Got Place
 partFrom (answer.Refused e) = refused (faultOf e)
 partFrom (answer.Part p) = found (partIn p)
 
--- a part that is answered lies in the file
+-- a part that is answered lies in the file. Of a section's part this follows from `sectionPart`; it is said beside it for callers, who cut the part out
 abbrev pub PartWithin : List ℕ → PartAnswer → Type 0
 PartWithin f (answer.Refused e) = Unit {0}
 PartWithin f (answer.Part p) = p .offset + p .size ≤ length f

@@ -44,8 +44,8 @@ abbrev pub charWidthFrom : CharWidthAnswer → Width
 charWidthFrom (widthAnswer.Invalid v) = isNone v
 charWidthFrom (widthAnswer.Width w) = is (byteWidth w)
 
-abbrev pub charWidthOf : ℕ → Width
-charWidthOf v = cond (eqb v 1 || eqb v 2) (is v) (isNone v)
+abbrev pub charWidthOfByte : ℕ → Width
+charWidthOfByte v = cond (eqb v 1 || eqb v 2) (is v) (isNone v)
 
 -- the bytes of a string of so many characters, behind a header of 6
 abbrev pub stringRegionSize : ℕ → CharWidth → ℕ

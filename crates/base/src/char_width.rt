@@ -1,6 +1,6 @@
 // Bytes to a character of a string.
 ghost use mathlib.Core.Path.{_≡_};
-ghost use Rattle.base.specs.Small.{byteWidth, isWide, charWidthFrom, charWidthOf};
+ghost use Rattle.base.specs.Small.{byteWidth, isWide, charWidthFrom, charWidthOfByte};
 
 pub enum CharWidth {
     // STRING: Latin-1, one byte to a character.
@@ -35,7 +35,7 @@ impl CharWidth {
     }
 
     pub fn from_u8(value: u8) -> CharWidthAnswer
-        ensures { λ r. ⌜ charWidthFrom r ≡ charWidthOf value ⌝ }
+        ensures { λ r. ⌜ charWidthFrom r ≡ charWidthOfByte value ⌝ }
     {
         match value {
             1 => CharWidthAnswer::Width(CharWidth::Narrow),

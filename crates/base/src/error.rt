@@ -1,7 +1,7 @@
 // The refusals of document 01's table.
 use crate::id_types::ConstantIndex;
 ghost use mathlib.Core.Path.{_≡_};
-ghost use Rattle.base.specs.Error.{faultOf, numberOf, valuesOf, listed};
+ghost use Rattle.base.specs.Error.{faultOf, refusalNumber, refusalValues, listed};
 
 pub enum ContainerError {
     ShortInput,
@@ -37,7 +37,7 @@ pub struct Values {
 impl ContainerError {
     // The number that document 01 gives the refusal.
     pub fn number(self) -> u8
-        ensures { λ r. ⌜ r ≡ numberOf (faultOf self) ⌝ }
+        ensures { λ r. ⌜ r ≡ refusalNumber (faultOf self) ⌝ }
     {
         match self {
             ContainerError::ShortInput => 1,
@@ -66,7 +66,7 @@ impl ContainerError {
 
     // The values that document 01 names for the refusal.
     pub fn values(self) -> Values
-        ensures { λ r. ⌜ listed r ≡ valuesOf (faultOf self) ⌝ }
+        ensures { λ r. ⌜ listed r ≡ refusalValues (faultOf self) ⌝ }
     {
         match self {
             ContainerError::InvalidTaskType(kind) => Values::one(kind as u32),

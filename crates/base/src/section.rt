@@ -2,6 +2,7 @@
 use crate::error::ContainerError;
 use reading::Table;
 ghost use mathlib.Core.Path.{_≡_};
+ghost use Rattle.format.specs.Parts.{isInside};
 ghost use Rattle.base.specs.Section.{placeIn, partIn, bytesOf, partFrom, PartWithin, sectionPart};
 
 // The library's limit on a file.
@@ -46,25 +47,32 @@ pub enum StartAnswer {
     Start(Table),
 }
 
-// The part of the file that a section is.
+// Whether a section lies in the file behind the header, also at size 0.
+pub fn is_inside(file: &[u8], section: Section) -> bool
+    ensures { λ r. ⌜ r ≡ isInside (now (file .entry)) (placeIn section) ⌝ }
+{
+    let start = section.offset as usize;
+    let length = section.size as usize;
+    if start < HEADER_SIZE {
+        return false;
+    }
+    start + length <= file.len()
+}
+
+// The part of the file that a section is. That it lies in the file follows from the equation; callers cut it out of the file by that.
 pub fn section_part(file: &[u8], section: Section) -> PartAnswer
     ensures { λ r. ⌜ (partFrom r ≡ sectionPart (now (file .entry)) (placeIn section)) × PartWithin (now (file .entry)) r ⌝ }
 {
     if file.len() > FILE_LIMIT {
         return PartAnswer::Refused(ContainerError::TooLong);
     }
-    let start = section.offset as usize;
-    let length = section.size as usize;
-    if start < HEADER_SIZE {
-        return PartAnswer::Refused(ContainerError::SectionSizeMismatch);
+    if is_inside(file, section) {
+        return PartAnswer::Part(Part {
+            offset: section.offset as usize,
+            size: section.size as usize,
+        });
     }
-    if file.len() < start + length {
-        return PartAnswer::Refused(ContainerError::SectionSizeMismatch);
-    }
-    PartAnswer::Part(Part {
-        offset: start,
-        size: length,
-    })
+    PartAnswer::Refused(ContainerError::SectionSizeMismatch)
 }
 
 impl Part {

@@ -9,8 +9,8 @@ use Rattle.code_section.specs.declared.FuncAnswer.the-variants as answer
 use Rattle.code_section.specs.declared.FuncNext.{FuncNext}
 use Rattle.code_section.specs.declared.FuncNext.the-variants as next
 
-abbrev pub entryIn : FuncEntry → Function
-entryIn f =
+abbrev pub funcIn : FuncEntry → Function
+funcIn f =
     record {
       id = f .«function_id» .0;
       offset = f .«code_offset»;
@@ -22,9 +22,9 @@ entryIn f =
 
 abbrev pub funcFrom : FuncAnswer → Got Function
 funcFrom (answer.Refused e) = refused (faultOf e)
-funcFrom (answer.Entry f) = found (entryIn f)
+funcFrom (answer.Entry f) = found (funcIn f)
 
 abbrev pub funcNextFrom : FuncNext → Next Function
 funcNextFrom next.End = ends
 funcNextFrom (next.Refused e) = faulty (faultOf e)
-funcNextFrom (next.Entry f t) = entry (entryIn f) t
+funcNextFrom (next.Entry f t) = entry (funcIn f) t

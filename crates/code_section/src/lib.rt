@@ -6,7 +6,7 @@ ghost use Rattle.reading.specs.Reader.{got};
 ghost use Rattle.reading.specs.Places.{stepOf};
 ghost use Rattle.format.specs.Code.{function};
 ghost use Rattle.base.specs.Section.{placeIn, partFrom, PartWithin, checkedFrom, startFrom, bytesOr};
-ghost use Rattle.code_section.specs.Answers.{entryIn, funcFrom, funcNextFrom};
+ghost use Rattle.code_section.specs.Answers.{funcIn, funcFrom, funcNextFrom};
 ghost use Rattle.code_section.specs.Lookups.{codeReads, functionIn, functionAt, bytecodeAt, directoryAt, nextFunctionAt};
 ghost use Rattle.code_section.specs.Laws.{Laws};
 use base::error::ContainerError;
@@ -48,7 +48,7 @@ pub enum FuncNext {
 // The entry at the place `at` of the section `s`.
 fn entry_at(s: &[u8], at: usize) -> FuncEntry
     requires { ⌜ at + 16 ≤ length (now s) ⌝ }
-    ensures { λ r. ⌜ function (drop at (now (s .entry))) ≡ got (entryIn r) (drop (at + 16) (now (s .entry))) ⌝ }
+    ensures { λ r. ⌜ function (drop at (now (s .entry))) ≡ got (funcIn r) (drop (at + 16) (now (s .entry))) ⌝ }
 {
     FuncEntry {
         function_id: FunctionId::new(u16_at(s, at)),

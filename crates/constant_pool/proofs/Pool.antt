@@ -1,20 +1,22 @@
 -- The pool over the section's bytes, and the section as its part of the file.
 use mathlib.Core.Path.{_≡_, refl, sym, ap, _∙_}
-use mathlib.Core.List.{List, [], _∷_, map}
-use Prim.Native.Nat.{ℕ, suc, _+_, _-_, _≤_}
+use mathlib.Core.List.{List, map}
+use Prim.Native.Nat.{ℕ, _+_, _-_, _≤_, _<_}
 use native.Mathlib.Nat.{add-sub-cancel-left}
 use native.Mathlib.Omega.{arith}
-use lib.ListN.{length, take, drop}
+use lib.ListN.{length, take, drop, length-map}
 use Rattle.reading.specs.Fault.{Fault}
 use Rattle.reading.specs.Reader.{Read, fault, got}
 use Rattle.reading.specs.Answer.{Got, refused, found, _>>=_, itemOf}
 use Rattle.reading.specs.declared.Table.{Table}
+use Rattle.reading.proofs.Le.{Bytes}
 use Rattle.reading.proofs.Parts.{length-part}
 use Rattle.reading.proofs.Left.{left-all}
-use Rattle.reading.proofs.Tables.{many-length}
+use Rattle.reading.proofs.Tables.{holds-count, counted-few}
 use Rattle.format.specs.Parts.{Place, cut, byBytes, byPlace}
 use Rattle.format.specs.Constants.{Constant, onConstant, constants}
 use Rattle.format.specs.Lookups.{constantOf}
+use Rattle.format.proofs.Places.{placed-alone}
 use Rattle.format.proofs.Keeping.{Alike, stops, gives, same-constants}
 use Rattle.base.specs.Section.{partIn, sectionPart, startFrom}
 use Rattle.base.specs.declared.section.Part.{Part}
@@ -22,7 +24,7 @@ use Rattle.base.specs.declared.section.StartAnswer.{StartAnswer}
 use Rattle.base.specs.declared.section.StartAnswer.the-variants as start
 use Rattle.base.proofs.Sections.{section-found}
 use Rattle.constant_pool.specs.Lookups.{placeOf, constantOver, poolCount, constantIn, poolAt}
-use Rattle.constant_pool.specs.Answers.{KeptEnds, ConstEnds, NextEnds, Readable, TableAs}
+use Rattle.constant_pool.specs.Answers.{KeptEnds, ConstEnds, NextEnds, PoolReadable, TableAs}
 use Rattle.constant_pool.specs.declared.Kept.{Kept}
 use Rattle.constant_pool.specs.declared.Kept.the-variants as kept
 use Rattle.constant_pool.specs.declared.ConstAnswer.{ConstAnswer}
@@ -32,33 +34,28 @@ use Rattle.constant_pool.specs.declared.ConstNext.the-variants as next
 
 -- Strings by their bytes or by their places: the same refusals, and as many constants
 
-length-map : {A B : Type 0} (m : B → A) (xs : List B) → length (map m xs) ≡ length xs
-length-map m [] = refl
-length-map m (x ∷ xs) = ap suc (length-map m xs)
-
 module _ (s : List ℕ) where
-  placed : (k n : ℕ) → k + n ≤ length s → take n (drop k s) ≡ cut s (byPlace (placeOf 0 s) (take n (drop k s)) (length s - k - n))
-  placed k n i =
-      let m = length-part s k n i in
-      let o : 0 + length s - (length s - k - n) - n ≡ k = omega arith in
-      sym (rw (m, o))
-
   count-on : {x : Read (List (Constant (List ℕ)))} {y : Read (List (Constant Place))} → Alike s (map (onConstant (cut s))) x y
       → (itemOf x >>= λ cs. found (length cs)) ≡ (itemOf y >>= λ cs. found (length cs))
   count-on (stops f) = refl
-  count-on (gives cs t w) = ap found (length-map (onConstant (cut s)) cs)
+  count-on (gives cs t w) = ap found (length-map cs _)
 
   count-either : poolCount s ≡ (itemOf (constants (byPlace (placeOf 0 s)) s) >>= λ cs. found (length cs))
-  count-either = count-on (same-constants s byBytes (byPlace (placeOf 0 s)) (cut s) placed s (left-all s))
+  count-either = count-on (same-constants s byBytes (byPlace (placeOf 0 s)) (cut s) (placed-alone s) s (left-all s))
 
   pub count-refused : (f : Fault) → constants (byPlace (placeOf 0 s)) s ≡ fault f → refused f ≡ poolCount s
   count-refused f e = sym (count-either ∙ rw e)
 
 -- a readable table has as many entries as its count says
-entries-count : (base : ℕ) (s : List ℕ) (t : Table) (h : Readable base s t) → length (h .entries) ≡ t .count
-entries-count base s t h = many-length (constantOver base s) (t .count) (drop (t .at) s) (h .entries) (h .holds .rest) (h .holds .reads)
+entries-count : (base : ℕ) (s : List ℕ) (t : Table) (h : PoolReadable base s t) → length (h .entries) ≡ t .count
+entries-count base s t h = sym (holds-count (constantOver base s) s t (h .entries) (h .holds))
 
-pub count-found : (s : List ℕ) (t : Table) → Readable 0 s t → found (t .count) ≡ poolCount s
+-- of a list of bytes: the count has two
+pub count-few : (s : List ℕ) (t : Table) → Bytes s → PoolReadable 0 s t → t .count < 65536
+unfolding constants
+count-few s t b h = omega (arith, entries-count 0 s t h, counted-few (constantOver 0 s) s (h .entries) (h .rest) b (h .reads))
+
+pub count-found : (s : List ℕ) (t : Table) → PoolReadable 0 s t → found (t .count) ≡ poolCount s
 count-found s t h = sym (count-either s ∙ rw (h .reads) (ap found (entries-count 0 s t h)))
 
 -- where a walk starts

@@ -44,10 +44,10 @@ abbrev pub keptIn : Kept → format.Kept Place
 keptIn (kept.Number n) = number (bytesLe 8 n)
 keptIn (kept.Part p) = string (partIn p)
 
-abbrev pub entryIn : ConstEntry → Constant Place
-entryIn c = record { kind = constTypeNumber (c .«const_type»); kept = keptIn (c .kept) }
+abbrev pub constIn : ConstEntry → Constant Place
+constIn c = record { kind = constTypeNumber (c .«const_type»); kept = keptIn (c .kept) }
 
--- a string ends at `most` or before it
+-- a string ends at `most` or before it. Of what is answered this follows from the equation; it is said beside it for callers, who cut the string out
 abbrev pub KeptEnds : ℕ → Kept → Type 0
 KeptEnds most (kept.Number n) = Unit {0}
 KeptEnds most (kept.Part p) = p .offset + p .size ≤ most
@@ -55,14 +55,14 @@ KeptEnds most (kept.Part p) = p .offset + p .size ≤ most
 -- an entry read at a place
 abbrev pub stepFrom : ConstStep → Step (Constant Place)
 stepFrom (step.Refused e) = stops (faultOf e)
-stepFrom (step.Entry c m) = item (entryIn c) m
+stepFrom (step.Entry c m) = item (constIn c) m
 
 abbrev pub StepEnds : ℕ → ConstStep → Type 0
 StepEnds most (step.Refused e) = Unit {0}
 StepEnds most (step.Entry c m) = KeptEnds most (c .kept)
 
 -- the entries of the section `s`, behind the count
-pub record Readable (base : ℕ) (s : List ℕ) (t : Table) : Type 0 where
+pub record PoolReadable (base : ℕ) (s : List ℕ) (t : Table) : Type 0 where
   pub first : t .at ≡ 2
   pub entries : List (Constant Place)
   pub rest : List ℕ
@@ -71,7 +71,7 @@ pub record Readable (base : ℕ) (s : List ℕ) (t : Table) : Type 0 where
 
 abbrev pub TableAs : ℕ → List ℕ → StartAnswer → Type 0
 TableAs base s (start.Refused e) = constants (byPlace (placeOf base s)) s ≡ fault (faultOf e)
-TableAs base s (start.Start t) = Readable base s t
+TableAs base s (start.Start t) = PoolReadable base s t
 
 abbrev pub countFrom : CountAnswer → Got ℕ
 countFrom (count.Refused e) = refused (faultOf e)
@@ -81,7 +81,7 @@ countFrom (count.Count n) = found n
 
 abbrev pub constFrom : ConstAnswer → Got (Constant Place)
 constFrom (answer.Refused e) = refused (faultOf e)
-constFrom (answer.Entry c) = found (entryIn c)
+constFrom (answer.Entry c) = found (constIn c)
 
 abbrev pub ConstEnds : ℕ → ConstAnswer → Type 0
 ConstEnds most (answer.Refused e) = Unit {0}
@@ -116,7 +116,7 @@ widthFrom (width.Width w) = found (byteWidth w)
 abbrev pub constNextFrom : ConstNext → Next (Constant Place)
 constNextFrom next.End = ends
 constNextFrom (next.Refused e) = faulty (faultOf e)
-constNextFrom (next.Entry c t) = entry (entryIn c) t
+constNextFrom (next.Entry c t) = entry (constIn c) t
 
 abbrev pub NextEnds : ℕ → ConstNext → Type 0
 NextEnds most next.End = Unit {0}

@@ -54,7 +54,7 @@ pub enum ConstStep {
 
 pub enum CountAnswer {
     Refused(ContainerError),
-    Count(usize),
+    Count(u16),
 }
 
 pub enum ConstAnswer {
@@ -215,7 +215,7 @@ pub fn read_from(s: &[u8]) -> CountAnswer
 {
     match table(s, 0) {
         StartAnswer::Refused(e) => CountAnswer::Refused(e),
-        StartAnswer::Start(t) => CountAnswer::Count(t.count),
+        StartAnswer::Start(t) => CountAnswer::Count(t.count as u16),
     }
 }
 

@@ -13,11 +13,11 @@ use Rattle.format.specs.Tasks as task
 use Rattle.format.specs.Types as types
 use Rattle.format.specs.Constants as pool
 use Rattle.format.specs.Code as code
-use Rattle.format.specs.Debug.{line, tagOf, sizeOf, kindOf, tableOf, rowsOf, debugTables}
+use Rattle.format.specs.Debug.{line, tagOf, sizeOf, kindOf, payloadOf, rowsOf, debugTables}
 use Rattle.format.specs.Lines.{sorted, lineFor}
 use Rattle.format.specs.Integrity.{maskedHeader, sectionIn, hashedIn, hashedString, contentFits, debugHashFits}
 use Rattle.format.specs.Load.{load, readIn, hasTypes, typesFound, debugOf, debugFound}
-use Rattle.format.specs.Lookups.{readAt, debugIn}
+use Rattle.format.specs.Lookups.{readAt, debugAt, debugIn}
 use Rattle.format.specs.RunSide.{placed, SameRunSide}
 use Rattle.format.specs.Examples.{tinyWith, pasteLimit, lineAt, lastLine}
 use Rattle.format.proofs.Examples.{inside, the-found, sections, first-half-speaks, types-premise-needed, empty-code-place-needed, second-half-speaks}
@@ -62,15 +62,15 @@ module _ (hash : List ℕ → List ℕ) (d : Digests hash) where
   hashed-run = record { checked = refl; premises = premises; first-answer = first-270; second-answer = second-270 }
 
   first-line : lineAt hash hashedMill 0 3 ≡ found lastLine
-  unfolding load headerOf runtimeOf directoryOf le bytes contentFits hashedString hashedIn maskedHeader readIn sectionIn isInside task.taskTable task.task task.program typesFound hasTypes types.typeTables types.fbType types.array types.userFb pool.constants pool.constant pool.keptOf code.codeOf code.function debugFound debugOf debugHashFits debugTables rowsOf tableOf tagOf sizeOf kindOf line debugIn lineFor sorted
+  unfolding load headerOf runtimeOf directoryOf le bytes contentFits hashedString hashedIn maskedHeader readIn sectionIn isInside task.taskTable task.task task.program typesFound hasTypes types.typeTables types.fbType types.array types.userFb pool.constants pool.constant pool.keptOf code.codeOf code.function debugFound debugOf debugHashFits debugTables rowsOf payloadOf tagOf sizeOf kindOf line debugIn debugAt lineFor sorted
   first-line = rw (d .of-content, d .of-lines)
 
   second-line : lineAt hash hashedMillMore 0 3 ≡ found lastLine
-  unfolding load headerOf runtimeOf directoryOf le bytes contentFits hashedString hashedIn maskedHeader readIn sectionIn isInside task.taskTable task.task task.program typesFound hasTypes types.typeTables types.fbType types.array types.userFb pool.constants pool.constant pool.keptOf code.codeOf code.function debugFound debugOf debugHashFits debugTables rowsOf tableOf tagOf sizeOf kindOf line debugIn lineFor sorted
+  unfolding load headerOf runtimeOf directoryOf le bytes contentFits hashedString hashedIn maskedHeader readIn sectionIn isInside task.taskTable task.task task.program typesFound hasTypes types.typeTables types.fbType types.array types.userFb pool.constants pool.constant pool.keptOf code.codeOf code.function debugFound debugOf debugHashFits debugTables rowsOf payloadOf tagOf sizeOf kindOf line debugIn debugAt lineFor sorted
   second-line = rw (d .of-content, d .of-lines-more)
 
   hashed-debug : HashedDebug hash
-  unfolding load headerOf runtimeOf directoryOf le bytes contentFits hashedString hashedIn maskedHeader readIn sectionIn isInside task.taskTable task.task task.program typesFound hasTypes types.typeTables types.fbType types.array types.userFb pool.constants pool.constant pool.keptOf code.codeOf code.function debugFound debugOf debugHashFits debugTables rowsOf tableOf tagOf sizeOf kindOf line
+  unfolding load headerOf runtimeOf directoryOf le bytes contentFits hashedString hashedIn maskedHeader readIn sectionIn isInside task.taskTable task.task task.program typesFound hasTypes types.typeTables types.fbType types.array types.userFb pool.constants pool.constant pool.keptOf code.codeOf code.function debugFound debugOf debugHashFits debugTables rowsOf payloadOf tagOf sizeOf kindOf line
   hashed-debug =
       let a = the-found (load like hashedMill) tt in
       let b = the-found (load like hashedMillMore) tt in

@@ -22,8 +22,8 @@ use Rattle.base.specs.Section.{sectionPart}
 use Rattle.base.proofs.FileLookups.{sliced, slice-is}
 use Rattle.blake3.specs.Blake3.{blake3}
 use Rattle.integrity.proofs.Laws.{laws}
-use Rattle.type_section.specs.Lookups.{countsOf}
-use Rattle.container.specs.Sections.{typeCountsAt, typeCountsOf, debugCountsIn}
+use Rattle.type_section.specs.Lookups.{typeCountsOfSection}
+use Rattle.container.specs.Sections.{typeCountsAt, typeCountsOf, debugCountsOfSection}
 
 abbrev counted : TypeTables → Got TypeCounts
 counted t = found (record { fbTypes = length (t .fbTypes); arrays = length (t .arrays); userFbs = length (t .userFbs) })
@@ -62,10 +62,10 @@ module _ (f : List ℕ) (p : Place) (l : length f ≤ limit) where
   some-found (refused d) k = never (sym k)
   some-found (found t) k = ap (λ (c : TypeCounts). found (some c)) (same-found k)
 
-  pub types-refused : {q : Place} {e : Fault} → found q ≡ sectionPart f p → refused e ≡ countsOf (sliced f q) → refused e ≡ typeCountsAt f p
+  pub types-refused : {q : Place} {e : Fault} → found q ≡ sectionPart f p → refused e ≡ typeCountsOfSection (sliced f q) → refused e ≡ typeCountsAt f p
   types-refused h k = let s = part-inside h in rw (s .inside) (some-refused (itemOf (typeTables (cut f p))) (rw (s .bytes) at k))
 
-  pub types-counted : {q : Place} {c : TypeCounts} → found q ≡ sectionPart f p → found c ≡ countsOf (sliced f q) → found (some c) ≡ typeCountsAt f p
+  pub types-counted : {q : Place} {c : TypeCounts} → found q ≡ sectionPart f p → found c ≡ typeCountsOfSection (sliced f q) → found (some c) ≡ typeCountsAt f p
   types-counted h k = let s = part-inside h in rw (s .inside) (some-found (itemOf (typeTables (cut f p))) (rw (s .bytes) at k))
 
 -- by their flag and size
@@ -110,7 +110,7 @@ module _ (f : List ℕ) (h : Header) where
       go false = refl
 
   pub debug-there : {q : Place} {x : Option DebugCounts} → length f ≤ limit → (h .directory .debug .size ≡ 0 → ⊥) → found q ≡ sectionPart f (h .directory .debug)
-      → x ≡ debugCountsIn (h .debugHash) (sliced f q) → x ≡ debugCounts (debugFound blake3 f h)
+      → x ≡ debugCountsOfSection (h .debugHash) (sliced f q) → x ≡ debugCounts (debugFound blake3 f h)
   unfolding debugFound
   debug-there {q} l n k e =
       let p = h .directory .debug in
@@ -118,4 +118,4 @@ module _ (f : List ℕ) (h : Header) where
       let a = length-cut f p (s .inside) in
       let b = inside-is f p (s .inside) .within in
       let w : length (cut f p) ≤ hashLimit = omega arith in
-      rw (lt-ltb 0 (p .size) (omega arith), s .inside, ← laws .debug (h .debugHash) (cut f p) w) (e ∙ ap (debugCountsIn (h .debugHash)) (s .bytes))
+      rw (lt-ltb 0 (p .size) (omega arith), s .inside, ← laws .debug (h .debugHash) (cut f p) w) (e ∙ ap (debugCountsOfSection (h .debugHash)) (s .bytes))

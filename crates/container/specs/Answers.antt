@@ -13,6 +13,6 @@ abbrev pub containerFrom : ContainerAnswer → Got format.Container
 containerFrom (answer.Refused e) = refused (faultOf e)
 containerFrom (answer.Container c) = found (containerIn c)
 
-abbrev pub typesFrom : TypesRead → Got (Option format.TypeCounts)
-typesFrom (types.Refused e) = refused (faultOf e)
-typesFrom (types.Types t) = found (maybeTypes t)
+abbrev pub typesReadFrom : TypesRead → Got (Option format.TypeCounts)
+typesReadFrom (types.Refused e) = refused (faultOf e)
+typesReadFrom (types.Types t) = found (maybeTypes t)

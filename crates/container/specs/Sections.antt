@@ -43,8 +43,8 @@ abbrev pub typeCountsOf : List ℕ → Header → Got (Option TypeCounts)
 typeCountsOf f h = typesFound f h >>= λ t. found (typeCounts t)
 
 -- a debug section of the bytes `s`: its counts where its hash fits and it reads
-abbrev pub debugCountsIn : List ℕ → List ℕ → Option DebugCounts
-debugCountsIn d s = debugCounts (cond (debugFits d s) (debugOf s) none)
+abbrev pub debugCountsOfSection : List ℕ → List ℕ → Option DebugCounts
+debugCountsOfSection d s = debugCounts (cond (debugFits d s) (debugOf s) none)
 
 -- the record of an accepted file
 abbrev pub recordFrom : List ℕ → Header → Got Container

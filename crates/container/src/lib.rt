@@ -9,11 +9,11 @@ ghost use Rattle.base.specs.Digest.{digestBytes};
 ghost use Rattle.base.specs.Section.{placeIn, checkedFrom};
 ghost use Rattle.blake3.specs.Blake3.{blake3};
 ghost use Rattle.header.specs.Answers.{headerIn};
-ghost use Rattle.task_table.specs.Answers.{countsFrom};
+ghost use Rattle.task_table.specs.Answers.{taskCountsFrom};
 ghost use Rattle.constant_pool.specs.Answers.{countFrom};
 ghost use Rattle.debug_tables.specs.Answers.{maybeDebug};
-ghost use Rattle.container.specs.Answers.{containerFrom, typesFrom};
-ghost use Rattle.container.specs.Sections.{Accepted, taskCountsAt, typeCountsAt, typeCountsOf, constantCountAt, codeReadsAt, debugCountsIn};
+ghost use Rattle.container.specs.Answers.{containerFrom, typesReadFrom};
+ghost use Rattle.container.specs.Sections.{Accepted, taskCountsAt, typeCountsAt, typeCountsOf, constantCountAt, codeReadsAt, debugCountsOfSection};
 ghost use Rattle.container.specs.Independence.{SameRun, DebugAlike};
 ghost use Rattle.container.specs.Examples.{Examples};
 use base::digest::Digest;
@@ -50,7 +50,7 @@ enum TypesRead {
 
 // Each section is handed on as the part of the file that starts at its offset and has its size.
 fn tasks_at(file: &[u8], section: Section) -> TaskTableAnswer
-    ensures { λ r. ⌜ countsFrom r ≡ taskCountsAt (now (file .entry)) (placeIn section) ⌝ }
+    ensures { λ r. ⌜ taskCountsFrom r ≡ taskCountsAt (now (file .entry)) (placeIn section) ⌝ }
 {
     match section_part(file, section) {
         PartAnswer::Refused(e) => TaskTableAnswer::Refused(e),
@@ -64,7 +64,7 @@ fn tasks_at(file: &[u8], section: Section) -> TaskTableAnswer
 
 fn types_at(file: &[u8], section: Section) -> TypesRead
     requires { ⌜ length (now file) ≤ limit ⌝ }
-    ensures { λ r. ⌜ typesFrom r ≡ typeCountsAt (now (file .entry)) (placeIn section) ⌝ }
+    ensures { λ r. ⌜ typesReadFrom r ≡ typeCountsAt (now (file .entry)) (placeIn section) ⌝ }
 {
     match section_part(file, section) {
         PartAnswer::Refused(_) => TypesRead::Types(MaybeTypes::None),
@@ -108,7 +108,7 @@ fn code_at(file: &[u8], section: Section, num_functions: u16) -> Checked
 // Types are read only if their flag is set and their size is above 0.
 fn types_of(file: &[u8], header: FileHeader) -> TypesRead
     requires { ⌜ length (now file) ≤ limit ⌝ }
-    ensures { λ r. ⌜ typesFrom r ≡ typeCountsOf (now (file .entry)) (headerIn header) ⌝ }
+    ensures { λ r. ⌜ typesReadFrom r ≡ typeCountsOf (now (file .entry)) (headerIn header) ⌝ }
 {
     let types = header.sections.type_section;
     if types.size == 0 {
@@ -122,7 +122,7 @@ fn types_of(file: &[u8], header: FileHeader) -> TypesRead
 
 // A debug section, where its hash fits and it reads.
 fn debug_in(section: &[u8], debug_hash: Digest) -> MaybeDebug
-    ensures { λ r. ⌜ maybeDebug r ≡ debugCountsIn (digestBytes «debug_hash») (now (section .entry)) ⌝ }
+    ensures { λ r. ⌜ maybeDebug r ≡ debugCountsOfSection (digestBytes «debug_hash») (now (section .entry)) ⌝ }
 {
     if debug_hash_matches(debug_hash, section) {
         return debug_tables::read_from(section);

@@ -12,7 +12,7 @@ use Rattle.format.specs.Debug.{name, Variable, FunctionName, StringLayout, Sour
 use Rattle.format.specs.Parts.{Place}
 use Rattle.base.specs.Digest.{digestBytes}
 use Rattle.base.specs.Section.{partIn}
-use Rattle.debug_text.specs.Answers.{keepIn, faultOf}
+use Rattle.debug_text.specs.Answers.{keepIn, debugFaultOf}
 use Rattle.debug_entries.specs.declared.var_names.VarNameEntry.{VarNameEntry}
 use Rattle.debug_entries.specs.declared.var_names.VarNameStep.{VarNameStep}
 use Rattle.debug_entries.specs.declared.var_names.VarNameStep.the-variants as stepVar
@@ -63,17 +63,17 @@ varNameIn v =
     }
 
 abbrev pub varNameStep : VarNameStep → Step (Variable Place)
-varNameStep (stepVar.Fault e) = stops (faultOf e)
+varNameStep (stepVar.Fault e) = stops (debugFaultOf e)
 varNameStep (stepVar.Entry v m) = item (varNameIn v) m
 
 abbrev pub varNameFrom : VarNameAnswer → Got (Variable Place)
-varNameFrom (answerVar.Fault e) = refused (faultOf e)
+varNameFrom (answerVar.Fault e) = refused (debugFaultOf e)
 varNameFrom answerVar.NoEntry = refused noEntry
 varNameFrom (answerVar.Entry v) = found (varNameIn v)
 
 abbrev pub varNameNext : VarNameNext → Next (Variable Place)
 varNameNext nextVar.End = ends
-varNameNext (nextVar.Fault e) = faulty (faultOf e)
+varNameNext (nextVar.Fault e) = faulty (debugFaultOf e)
 varNameNext (nextVar.Entry v t) = entry (varNameIn v) t
 
 -- Functions
@@ -82,17 +82,17 @@ abbrev pub funcNameIn : FuncNameEntry → FunctionName Place
 funcNameIn v = record { id = v .«function_id» .0; named = partIn (v .name) }
 
 abbrev pub funcNameStep : FuncNameStep → Step (FunctionName Place)
-funcNameStep (stepFunc.Fault e) = stops (faultOf e)
+funcNameStep (stepFunc.Fault e) = stops (debugFaultOf e)
 funcNameStep (stepFunc.Entry v m) = item (funcNameIn v) m
 
 abbrev pub funcNameFrom : FuncNameAnswer → Got (FunctionName Place)
-funcNameFrom (answerFunc.Fault e) = refused (faultOf e)
+funcNameFrom (answerFunc.Fault e) = refused (debugFaultOf e)
 funcNameFrom answerFunc.NoEntry = refused noEntry
 funcNameFrom (answerFunc.Entry v) = found (funcNameIn v)
 
 abbrev pub funcNameNext : FuncNameNext → Next (FunctionName Place)
 funcNameNext nextFunc.End = ends
-funcNameNext (nextFunc.Fault e) = faulty (faultOf e)
+funcNameNext (nextFunc.Fault e) = faulty (debugFaultOf e)
 funcNameNext (nextFunc.Entry v t) = entry (funcNameIn v) t
 
 -- String layouts
@@ -106,17 +106,17 @@ stringLayoutIn v =
     }
 
 abbrev pub stringLayoutStep : StringLayoutStep → Step StringLayout
-stringLayoutStep (stepLayout.Fault e) = stops (faultOf e)
+stringLayoutStep (stepLayout.Fault e) = stops (debugFaultOf e)
 stringLayoutStep (stepLayout.Entry v m) = item (stringLayoutIn v) m
 
 abbrev pub stringLayoutFrom : StringLayoutAnswer → Got StringLayout
-stringLayoutFrom (answerLayout.Fault e) = refused (faultOf e)
+stringLayoutFrom (answerLayout.Fault e) = refused (debugFaultOf e)
 stringLayoutFrom answerLayout.NoEntry = refused noEntry
 stringLayoutFrom (answerLayout.Entry v) = found (stringLayoutIn v)
 
 abbrev pub stringLayoutNext : StringLayoutNext → Next StringLayout
 stringLayoutNext nextLayout.End = ends
-stringLayoutNext (nextLayout.Fault e) = faulty (faultOf e)
+stringLayoutNext (nextLayout.Fault e) = faulty (debugFaultOf e)
 stringLayoutNext (nextLayout.Entry v t) = entry (stringLayoutIn v) t
 
 -- Source files
@@ -125,17 +125,17 @@ abbrev pub sourceFileIn : SourceFileEntry → SourceFile Place
 sourceFileIn v = record { located = partIn (v .path); hash = digestBytes (v .«content_hash») }
 
 abbrev pub sourceFileStep : SourceFileStep → Step (SourceFile Place)
-sourceFileStep (stepFile.Fault e) = stops (faultOf e)
+sourceFileStep (stepFile.Fault e) = stops (debugFaultOf e)
 sourceFileStep (stepFile.Entry v m) = item (sourceFileIn v) m
 
 abbrev pub sourceFileFrom : SourceFileAnswer → Got (SourceFile Place)
-sourceFileFrom (answerFile.Fault e) = refused (faultOf e)
+sourceFileFrom (answerFile.Fault e) = refused (debugFaultOf e)
 sourceFileFrom answerFile.NoEntry = refused noEntry
 sourceFileFrom (answerFile.Entry v) = found (sourceFileIn v)
 
 abbrev pub sourceFileNext : SourceFileNext → Next (SourceFile Place)
 sourceFileNext nextFile.End = ends
-sourceFileNext (nextFile.Fault e) = faulty (faultOf e)
+sourceFileNext (nextFile.Fault e) = faulty (debugFaultOf e)
 sourceFileNext (nextFile.Entry v t) = entry (sourceFileIn v) t
 
 -- Enumerations
@@ -153,17 +153,17 @@ abbrev pub enumDefIn : ℕ → List ℕ → EnumDefEntry → Enumeration Place
 enumDefIn base s v = record { named = partIn (v .«type_name»); values = valuesIn base s (v .values) }
 
 abbrev pub enumDefStep : ℕ → List ℕ → EnumDefStep → Step (Enumeration Place)
-enumDefStep base s (stepEnum.Fault e) = stops (faultOf e)
+enumDefStep base s (stepEnum.Fault e) = stops (debugFaultOf e)
 enumDefStep base s (stepEnum.Entry v m) = item (enumDefIn base s v) m
 
 abbrev pub enumDefFrom : ℕ → List ℕ → EnumDefAnswer → Got (Enumeration Place)
-enumDefFrom base s (answerEnum.Fault e) = refused (faultOf e)
+enumDefFrom base s (answerEnum.Fault e) = refused (debugFaultOf e)
 enumDefFrom base s answerEnum.NoEntry = refused noEntry
 enumDefFrom base s (answerEnum.Entry v) = found (enumDefIn base s v)
 
 abbrev pub enumDefNext : ℕ → List ℕ → EnumDefNext → Next (Enumeration Place)
 enumDefNext base s nextEnum.End = ends
-enumDefNext base s (nextEnum.Fault e) = faulty (faultOf e)
+enumDefNext base s (nextEnum.Fault e) = faulty (debugFaultOf e)
 enumDefNext base s (nextEnum.Entry v t) = entry (enumDefIn base s v) t
 
 -- the table of values of an enumeration that is answered reads; it stands behind the type's name and a count of two bytes

@@ -4,7 +4,7 @@ use mathlib.Core.List.{List, [], _∷_}
 use Prim.Native.Nat.{ℕ, zero, suc, _+_, _-_}
 use native.Mathlib.Omega.{arith}
 use lib.ListN.{drop}
-use Rattle.reading.specs.Fault.{Fault, refusal, badText}
+use Rattle.reading.specs.Fault.{Fault}
 use Rattle.reading.specs.Reader.{Reader}
 use Rattle.reading.specs.Answer.{Got, refused, found, _>>=_, indexed, itemOf}
 use Rattle.reading.specs.Places.{entry, Holds}
@@ -13,9 +13,10 @@ use Rattle.reading.proofs.Tables.{many-length}
 use Rattle.format.specs.Faults.{noEntry}
 use Rattle.format.specs.Parts.{Place, cut, Inside, Keep, byPlace}
 use Rattle.format.specs.Debug.{Line, name, Enumeration, enumeration, Tables}
+use Rattle.base.specs.Error.{refusalNumber}
 use Rattle.base.proofs.FileLookups.{sliced, slice-is}
 use Rattle.line_map.specs.Lookups.{inLines}
-use Rattle.debug_text.specs.Answers.{keepIn, faultOf}
+use Rattle.debug_text.specs.Answers.{keepIn, debugFaultOf}
 use Rattle.debug_text.specs.Picked.{picked}
 use Rattle.debug_text.specs.declared.DebugFault.{DebugFault}
 use Rattle.debug_text.specs.declared.DebugFault.the-variants as debugFault
@@ -24,29 +25,24 @@ use Rattle.debug_entries.specs.Answers.{enumDefIn, ValuesHold}
 use Rattle.debug_entries.specs.declared.enum_defs.EnumDefEntry.{EnumDefEntry}
 use Rattle.debug_tables.specs.Laws.{Standing}
 use Rattle.debug_tables.specs.declared.DebugTables.{DebugTables}
-use Rattle.debug_section.specs.Lookups.{debugAt, startsAt, headOf, valuesAt}
-use Rattle.debug_section.specs.Answers.{headIn}
+use Rattle.debug_section.specs.Lookups.{debugTablesAt, startsAt, enumerationHeadOf, valuesAt}
+use Rattle.debug_section.specs.Answers.{enumerationHeadIn}
 use Rattle.debug_section.proofs.Parts.{moved, tables-refused, tables-stand}
 
 -- a table that reads gives an entry or 29, and no other refusal
-numberOf : Fault → ℕ
-numberOf (refusal n vs) = n
-numberOf (badText n) = 0
-
-no-fault : (e : DebugFault) → faultOf e ≡ noEntry → ⊥
-unfolding numberOf
-no-fault debugFault.Short h = let z : _≡_ {A = ℕ} 1 29 = ap numberOf h in omega arith
-no-fault (debugFault.BadText n) h = let z : _≡_ {A = ℕ} 0 29 = ap numberOf h in omega arith
+no-fault : (e : DebugFault) → debugFaultOf e ≡ noEntry → ⊥
+no-fault debugFault.Short h = let z : _≡_ {A = ℕ} 1 29 = ap refusalNumber h in omega arith
+no-fault (debugFault.BadText n) h = let z : _≡_ {A = ℕ} 0 29 = ap refusalNumber h in omega arith
 
 refused-by : {A : Type 0} {e d : Fault} → _≡_ {A = Got A} (refused e) (refused d) → e ≡ d
 refused-by h = cc
 
-indexed-fault : {A : Type 0} (e : DebugFault) (xs : List A) (k : ℕ) → refused (faultOf e) ≡ indexed noEntry xs k → ⊥
+indexed-fault : {A : Type 0} (e : DebugFault) (xs : List A) (k : ℕ) → refused (debugFaultOf e) ≡ indexed noEntry xs k → ⊥
 indexed-fault e [] k h = no-fault e (refused-by h)
 indexed-fault e (x ∷ xs) zero h = Rattle.format.proofs.Answers.never h
 indexed-fault e (x ∷ xs) (suc k) h = indexed-fault e xs k h
 
-then-fault : {A B : Type 0} (e : DebugFault) (xs : List A) (k : ℕ) (ys : A → List B) (j : ℕ) → refused (faultOf e) ≡ (indexed noEntry xs k >>= λ a. indexed noEntry (ys a) j) → ⊥
+then-fault : {A B : Type 0} (e : DebugFault) (xs : List A) (k : ℕ) (ys : A → List B) (j : ℕ) → refused (debugFaultOf e) ≡ (indexed noEntry xs k >>= λ a. indexed noEntry (ys a) j) → ⊥
 then-fault e [] k ys j h = no-fault e (refused-by h)
 then-fault e (x ∷ xs) zero ys j h = indexed-fault e (ys x) j h
 then-fault e (x ∷ xs) (suc k) ys j h = then-fault e xs k ys j h
@@ -54,12 +50,12 @@ then-fault e (x ∷ xs) (suc k) ys j h = then-fault e xs k ys j h
 module _ (f : List ℕ) (p : Place) where
   -- Lookups
 
-  pub refused-then : {A : Type 0} (go : Tables Place → Got A) {e : Fault} → refused e ≡ startsAt f p → refused e ≡ (debugAt f p >>= go)
+  pub refused-then : {A : Type 0} (go : Tables Place → Got A) {e : Fault} → refused e ≡ startsAt f p → refused e ≡ (debugTablesAt f p >>= go)
   refused-then go k = ap (λ (x : Got (Tables Place)). x >>= go) (tables-refused f p k)
 
   module _ {u : DebugTables} (k : found u ≡ startsAt f p) (i : Inside f p) where
     -- in the lines
-    pub in-lines : {A : Type 0} (pick : List Line → Got A) {x : Got A} → x ≡ inLines (sliced f p) (u .lines .at) (u .lines .count) pick → x ≡ (debugAt f p >>= λ t. pick (t .lines))
+    pub in-lines : {A : Type 0} (pick : List Line → Got A) {x : Got A} → x ≡ inLines (sliced f p) (u .lines .at) (u .lines .count) pick → x ≡ (debugTablesAt f p >>= λ t. pick (t .lines))
     in-lines pick {x} h =
         let g = tables-stand f p k in
         h
@@ -70,7 +66,7 @@ module _ (f : List ℕ) (p : Place) where
     -- in a table of entries
     module _ {A : Type 0} (r : Keep Place → Reader A) (tab : DebugTables → Table) (xs : Tables Place → List A)
         (holds : (t : Tables Place) → Standing (byPlace p) (cut f p) u t → Holds (r (byPlace p)) (cut f p) (tab u) (xs t)) (n : ℕ) where
-      picked-at : picked (r (keepIn (p .offset) (sliced f p))) (sliced f p) (tab u .at) (tab u .count) n ≡ (debugAt f p >>= λ t. indexed noEntry (xs t) n)
+      picked-at : picked (r (keepIn (p .offset) (sliced f p))) (sliced f p) (tab u .at) (tab u .count) n ≡ (debugTablesAt f p >>= λ t. indexed noEntry (xs t) n)
       picked-at =
           let g = tables-stand f p k in
           let h = holds (g .tables) (g .stand) in
@@ -78,10 +74,10 @@ module _ (f : List ℕ) (p : Place) where
           ∙ picked-is (r (byPlace p)) (cut f p) (tab u .at) (tab u .count) n (xs (g .tables)) (h .rest) (h .reads)
           ∙ sym (ap (λ (y : Got (Tables Place)). y >>= λ t. indexed noEntry (xs t) n) (g .reads))
 
-      pub look : {x : Got A} → x ≡ picked (r (keepIn (p .offset) (sliced f p))) (sliced f p) (tab u .at) (tab u .count) n → x ≡ (debugAt f p >>= λ t. indexed noEntry (xs t) n)
+      pub look : {x : Got A} → x ≡ picked (r (keepIn (p .offset) (sliced f p))) (sliced f p) (tab u .at) (tab u .count) n → x ≡ (debugTablesAt f p >>= λ t. indexed noEntry (xs t) n)
       look h = h ∙ picked-at
 
-      pub look-fault : {B : Type 0} (e : DebugFault) → refused (faultOf e) ≡ picked (r (keepIn (p .offset) (sliced f p))) (sliced f p) (tab u .at) (tab u .count) n → B
+      pub look-fault : {B : Type 0} (e : DebugFault) → refused (debugFaultOf e) ≡ picked (r (keepIn (p .offset) (sliced f p))) (sliced f p) (tab u .at) (tab u .count) n → B
       look-fault e h =
           let g = tables-stand f p k in
           absurd (indexed-fault e (xs (g .tables)) n (look h ∙ ap (λ (y : Got (Tables Place)). y >>= λ t. indexed noEntry (xs t) n) (g .reads)))
@@ -91,37 +87,37 @@ module _ (f : List ℕ) (p : Place) where
       abbrev picks : Got (Enumeration Place)
       picks = picked (enumeration (keepIn (p .offset) (sliced f p))) (sliced f p) (u .enumerations .at) (u .enumerations .count) n
 
-      looked : {x : Got (Enumeration Place)} → x ≡ picks → x ≡ (debugAt f p >>= λ t. indexed noEntry (t .enumerations) n)
+      looked : {x : Got (Enumeration Place)} → x ≡ picks → x ≡ (debugTablesAt f p >>= λ t. indexed noEntry (t .enumerations) n)
       looked h = look enumeration (λ u. u .enumerations) (λ t. t .enumerations) (λ t s. s .enumerations) n h
 
-      pub look-head : {x : Got (Enumeration Place)} → x ≡ picks → (x >>= λ e. found (headOf e)) ≡ (debugAt f p >>= λ t. indexed noEntry (t .enumerations) n >>= λ e. found (headOf e))
+      pub look-head : {x : Got (Enumeration Place)} → x ≡ picks → (x >>= λ e. found (enumerationHeadOf e)) ≡ (debugTablesAt f p >>= λ t. indexed noEntry (t .enumerations) n >>= λ e. found (enumerationHeadOf e))
       look-head {x} h =
           let g = tables-stand f p k in
-          ap (λ (y : Got (Enumeration Place)). y >>= λ e. found (headOf e)) (looked h ∙ ap (λ (y : Got (Tables Place)). y >>= λ t. indexed noEntry (t .enumerations) n) (g .reads))
-          ∙ sym (ap (λ (y : Got (Tables Place)). y >>= λ t. indexed noEntry (t .enumerations) n >>= λ e. found (headOf e)) (g .reads))
+          ap (λ (y : Got (Enumeration Place)). y >>= λ e. found (enumerationHeadOf e)) (looked h ∙ ap (λ (y : Got (Tables Place)). y >>= λ t. indexed noEntry (t .enumerations) n) (g .reads))
+          ∙ sym (ap (λ (y : Got (Tables Place)). y >>= λ t. indexed noEntry (t .enumerations) n >>= λ e. found (enumerationHeadOf e)) (g .reads))
 
       -- the name of one of its values
       pub look-value : {x : Got Place} (j : ℕ) → x ≡ (picks >>= λ e. indexed noEntry (e .values) j)
-          → x ≡ (debugAt f p >>= λ t. indexed noEntry (t .enumerations) n >>= λ e. indexed noEntry (e .values) j)
+          → x ≡ (debugTablesAt f p >>= λ t. indexed noEntry (t .enumerations) n >>= λ e. indexed noEntry (e .values) j)
       look-value j h =
           let g = tables-stand f p k in
           h
           ∙ ap (λ (y : Got (Enumeration Place)). y >>= λ e. indexed noEntry (e .values) j) (looked refl ∙ ap (λ (y : Got (Tables Place)). y >>= λ t. indexed noEntry (t .enumerations) n) (g .reads))
           ∙ sym (ap (λ (y : Got (Tables Place)). y >>= λ t. indexed noEntry (t .enumerations) n >>= λ e. indexed noEntry (e .values) j) (g .reads))
 
-      pub value-fault : {B : Type 0} (j : ℕ) (e : DebugFault) → refused (faultOf e) ≡ (picks >>= λ e. indexed noEntry (e .values) j) → B
+      pub value-fault : {B : Type 0} (j : ℕ) (e : DebugFault) → refused (debugFaultOf e) ≡ (picks >>= λ e. indexed noEntry (e .values) j) → B
       value-fault j e h =
           let g = tables-stand f p k in
           absurd (then-fault e (g .tables .enumerations) n (λ a. a .values) j (look-value j h ∙ ap (λ (y : Got (Tables Place)). y >>= λ t. indexed noEntry (t .enumerations) n >>= λ e. indexed noEntry (e .values) j) (g .reads)))
 
 -- an enumeration of the code: its values are as many as it says, and stand behind its name
 module _ (base : ℕ) (s : List ℕ) (e : EnumDefEntry) (h : ValuesHold base s e) where
-  pub head-is : headOf (enumDefIn base s e) ≡ headIn e
+  pub head-is : enumerationHeadOf (enumDefIn base s e) ≡ enumerationHeadIn e
   head-is =
       let n = many-length (name (keepIn base s)) (e .values .count) (drop (e .values .at) s) _ (h .table .rest) (h .table .reads) in
-      ap (λ (i : ℕ). record { named = headIn e .named; valueCount = i }) n
+      ap (λ (i : ℕ). record { named = enumerationHeadIn e .named; valueCount = i }) n
 
-  pub values-placed : (p : Place) → base ≡ p .offset → e .values ≡ valuesAt p (headIn e)
+  pub values-placed : (p : Place) → base ≡ p .offset → e .values ≡ valuesAt p (enumerationHeadIn e)
   values-placed p b =
-      let z : e .values .at ≡ headIn e .named .offset + headIn e .named .size + 2 - p .offset = let k = h .place in omega arith in
+      let z : e .values .at ≡ enumerationHeadIn e .named .offset + enumerationHeadIn e .named .size + 2 - p .offset = let k = h .place in omega arith in
       ap (λ (i : ℕ). record { at = i; count = e .values .count }) z

@@ -22,15 +22,15 @@ use Rattle.debug_entries.specs.Laws.{Lies, VariableLies, FunctionLies, FileLies
 use Rattle.debug_entries.proofs.Giving as entries
 use Rattle.debug_tables.specs.Laws.{Standing}
 use Rattle.debug_tables.specs.declared.DebugTables.{DebugTables}
-use Rattle.debug_section.specs.Lookups.{debugAt, startsAt, answersAt}
+use Rattle.debug_section.specs.Lookups.{debugTablesAt, startsAt, answersAt}
 use Rattle.debug_section.specs.Laws.{Lie, Laws}
 use Rattle.debug_section.proofs.Parts.{moved, tables-refused, tables-stand, tables-found}
 
 answers : (f : List ℕ) (r : Container) (c : DebugCounts) → r .debug ≡ some c → debugAnswers f r ≡ answersAt f (r .header .directory .debug)
-unfolding debugIn debugAt
+unfolding debugIn
 answers f r c e = rw e
 
-found-alike : (f : List ℕ) (p : Place) (e : Fault) → debugAt f p ≡ refused e → startsAt f p ≡ refused e
+found-alike : (f : List ℕ) (p : Place) (e : Fault) → debugTablesAt f p ≡ refused e → startsAt f p ≡ refused e
 found-alike f p e k = go (startsAt f p) refl
   where
     go : (x : Got DebugTables) → startsAt f p ≡ x → startsAt f p ≡ refused e
@@ -42,7 +42,7 @@ module _ (f : List ℕ) (p : Place) where
   lies : {A : Type 0} (P : List ℕ → A → Type 0) (r : Keep Place → Reader A) (xs : Tables Place → List A) (tab : DebugTables → Table)
       → ((u : DebugTables) (t : Tables Place) → Standing (byPlace p) (cut f p) u t → Holds (r (byPlace p)) (cut f p) (tab u) (xs t))
       → ((at n k : ℕ) (a : A) → picked (r (keepIn (p .offset) (sliced f p))) (sliced f p) at n k ≡ found a → P (sliced f p) a)
-      → (t : Tables Place) → debugAt f p ≡ found t → (i : ℕ) (a : A) → indexed noEntry (xs t) i ≡ found a → Inside f p × P (cut f p) a
+      → (t : Tables Place) → debugTablesAt f p ≡ found t → (i : ℕ) (a : A) → indexed noEntry (xs t) i ≡ found a → Inside f p × P (cut f p) a
   lies {A} P r xs tab holds given t d i a k =
       let g = tables-found f p t d in
       let h = holds (g .starts) t (g .stand) in
@@ -50,29 +50,29 @@ module _ (f : List ℕ) (p : Place) where
       let m = moved f p refl (g .part .inside) (λ keep s. (at n k : ℕ) (a : A) → picked (r keep) s at n k ≡ found a → P s a) given in
       (g .part .inside, m (tab (g .starts) .at) (tab (g .starts) .count) i a (e ∙ k))
 
-  enumeration-lies : (t : Tables Place) → debugAt f p ≡ found t → (i : ℕ) (e : Enumeration Place) → indexed noEntry (t .enumerations) i ≡ found e → Inside f p × EnumerationLies (p .offset) (cut f p) e
+  enumeration-lies : (t : Tables Place) → debugTablesAt f p ≡ found t → (i : ℕ) (e : Enumeration Place) → indexed noEntry (t .enumerations) i ≡ found e → Inside f p × EnumerationLies (p .offset) (cut f p) e
   enumeration-lies = lies (EnumerationLies (p .offset)) enumeration (λ t. t .enumerations) (λ u. u .enumerations) (λ u t s. s .enumerations) (entries.laws .enumerations (p .offset) (sliced f p) .found-is)
 
   lie : Lie f p
   lie =
       record {
         variable = λ i v e.
-            let k = steps (debugAt f p) e in
+            let k = steps (debugTablesAt f p) e in
             lies (VariableLies (p .offset)) variable (λ t. t .variables) (λ u. u .variables) (λ u t s. s .variables) (entries.laws .variables (p .offset) (sliced f p) .found-is) (k .item) (k .first) i v (k .second);
         functionName = λ i v e.
-            let k = steps (debugAt f p) e in
+            let k = steps (debugTablesAt f p) e in
             lies (FunctionLies (p .offset)) functionName (λ t. t .functions) (λ u. u .functions) (λ u t s. s .functions) (entries.laws .functions (p .offset) (sliced f p) .found-is) (k .item) (k .first) i v (k .second);
         sourceFile = λ i v e.
-            let k = steps (debugAt f p) e in
+            let k = steps (debugTablesAt f p) e in
             lies (FileLies (p .offset)) sourceFile (λ t. t .files) (λ u. u .files) (λ u t s. s .files) (entries.laws .files (p .offset) (sliced f p) .found-is) (k .item) (k .first) i v (k .second);
         enumeration = λ i v e.
-            let k = steps (debugAt f p) e in
+            let k = steps (debugTablesAt f p) e in
             let m = steps (indexed noEntry (k .item .enumerations) i) (k .second) in
             let h = enumeration-lies (k .item) (k .first) i (m .item) (m .first) in
             let z = same-found (m .second) in
             (h .0, subst (λ (x : EnumerationHead Place). Lies (p .offset) (cut f p) (x .named)) z (h .1 .0));
         enumerationValue = λ i j v e.
-            let k = steps (debugAt f p) e in
+            let k = steps (debugTablesAt f p) e in
             let m = steps (indexed noEntry (k .item .enumerations) i) (k .second) in
             let h = enumeration-lies (k .item) (k .first) i (m .item) (m .first) in
             (h .0, h .1 .1 j v (m .second));

@@ -13,7 +13,7 @@ use Rattle.format.specs.Parts.{limit, Place, cut, isInside, Inside, Keep, byPla
 use Rattle.format.specs.Debug.{Tables, debugTables}
 use Rattle.format.specs.Integrity.{sectionIn}
 use Rattle.format.specs.Load.{readIn}
-use Rattle.format.specs.Lookups.{orNoDebug}
+use Rattle.format.specs.Lookups.{orNoDebug, debugAt}
 use Rattle.format.proofs.Answers.{never, same-found}
 use Rattle.format.proofs.Places.{inside-is, is-inside, length-cut}
 use Rattle.base.specs.Section.{sectionPart}
@@ -23,7 +23,7 @@ use Rattle.debug_tables.specs.Starts.{debugStarts}
 use Rattle.debug_tables.specs.Laws.{Standing}
 use Rattle.debug_tables.specs.declared.DebugTables.{DebugTables}
 use Rattle.debug_tables.proofs.Standing as standing
-use Rattle.debug_section.specs.Lookups.{debugAt, debugPart, startsAt}
+use Rattle.debug_section.specs.Lookups.{debugTablesAt, debugPart, startsAt}
 
 module _ (f : List ℕ) (p : Place) where
   -- the section's part of the file
@@ -53,8 +53,8 @@ module _ (f : List ℕ) (p : Place) where
     pub same : q ≡ p
     pub inside : Inside f p
     pub part : debugPart f p ≡ found p
-    pub tables : debugAt f p ≡ orNoDebug (itemOf (debugTables (byPlace p) (cut f p)))
-    pub starts : startsAt f p ≡ orNoDebug (itemOf (debugStarts (byPlace p) (cut f p)))
+    pub tables : debugTablesAt f p ≡ orNoDebug (itemOf (debugTables (byPlace p) (cut f p)))
+    pub starts : startsAt f p ≡ orNoDebug (itemOf (debugStarts (cut f p)))
 
   pub in-part : {q : Place} → found q ≡ debugPart f p → InPart q
   unfolding debugPart debugAt startsAt readIn sectionIn
@@ -78,42 +78,42 @@ module _ (f : List ℕ) (p : Place) where
   starts-refused k = rw (← k)
 
   module _ {q : Place} (k : found q ≡ debugPart f p) where
-    pub starts-out : {e : Fault} → refused e ≡ itemOf (debugStarts (keepIn (q .offset) (sliced f q)) (sliced f q)) → refused noDebug ≡ startsAt f p
+    pub starts-out : {e : Fault} → refused e ≡ itemOf (debugStarts (sliced f q)) → refused noDebug ≡ startsAt f p
     starts-out {e} h =
         let g = in-part k in
-        ap orNoDebug (moved (g .same) (g .inside) (λ keep s. refused e ≡ itemOf (debugStarts keep s)) h) ∙ sym (g .starts)
+        ap orNoDebug (moved (g .same) (g .inside) (λ keep s. refused e ≡ itemOf (debugStarts s)) h) ∙ sym (g .starts)
 
-    pub starts-in : {u : DebugTables} → found u ≡ itemOf (debugStarts (keepIn (q .offset) (sliced f q)) (sliced f q)) → found u ≡ startsAt f p
+    pub starts-in : {u : DebugTables} → found u ≡ itemOf (debugStarts (sliced f q)) → found u ≡ startsAt f p
     starts-in {u} h =
         let g = in-part k in
-        ap orNoDebug (moved (g .same) (g .inside) (λ keep s. found u ≡ itemOf (debugStarts keep s)) h) ∙ sym (g .starts)
+        ap orNoDebug (moved (g .same) (g .inside) (λ keep s. found u ≡ itemOf (debugStarts s)) h) ∙ sym (g .starts)
 
   -- the tables are refused as their places are, and else stand there
   pub record Stand (u : DebugTables) : Type 0 where
     pub tables : Tables Place
-    pub reads : debugAt f p ≡ found tables
+    pub reads : debugTablesAt f p ≡ found tables
     pub stand : Standing (byPlace p) (cut f p) u tables
 
-  pub tables-refused : {e : Fault} → refused e ≡ startsAt f p → refused e ≡ debugAt f p
+  pub tables-refused : {e : Fault} → refused e ≡ startsAt f p → refused e ≡ debugTablesAt f p
   unfolding startsAt debugPart debugAt readIn sectionIn
   tables-refused {e} k = go (leb (length f) limit) (isInside f p) k
     where
-      last : (x : Got DebugTables) → itemOf (debugStarts (byPlace p) (cut f p)) ≡ x → refused e ≡ orNoDebug x → refused e ≡ orNoDebug (itemOf (debugTables (byPlace p) (cut f p)))
+      last : (x : Got DebugTables) → itemOf (debugStarts (cut f p)) ≡ x → refused e ≡ orNoDebug x → refused e ≡ orNoDebug (itemOf (debugTables (byPlace p) (cut f p)))
       last (refused g) h k =
           let z : e ≡ noDebug = cc in
           ap refused z ∙ sym (ap orNoDebug (standing.unreadable (byPlace p) (cut f p) g h))
       last (found u) h k = never k
 
-      go : (y z : Bool) → refused e ≡ ((need y tooLong >>= λ u. need z noDebug >> found p) >>= λ q. orNoDebug (itemOf (debugStarts (byPlace p) (cut f q))))
+      go : (y z : Bool) → refused e ≡ ((need y tooLong >>= λ u. need z noDebug >> found p) >>= λ q. orNoDebug (itemOf (debugStarts (cut f q))))
           → refused e ≡ (need y tooLong >>= λ u. orNoDebug ((need z sectionSizeMismatch >>= λ v. found (cut f p)) >>= λ s. itemOf (debugTables (byPlace p) s)))
-      go true true k = last (itemOf (debugStarts (byPlace p) (cut f p))) refl k
+      go true true k = last (itemOf (debugStarts (cut f p))) refl k
       go true false k = let z : e ≡ noDebug = cc in ap refused z
       go false z k = let z : e ≡ tooLong = cc in ap refused z
 
   pub tables-stand : {u : DebugTables} → found u ≡ startsAt f p → Stand u
   tables-stand {u} k = go (debugPart f p) refl
     where
-      last : InPart p → (x : Got DebugTables) → itemOf (debugStarts (byPlace p) (cut f p)) ≡ x → found u ≡ orNoDebug x → Stand u
+      last : InPart p → (x : Got DebugTables) → itemOf (debugStarts (cut f p)) ≡ x → found u ≡ orNoDebug x → Stand u
       last g (refused d) h k = never (sym k)
       last g (found v) h k =
           let z : v ≡ u = sym (same-found k) in
@@ -122,7 +122,7 @@ module _ (f : List ℕ) (p : Place) where
 
       go : (x : Got Place) → debugPart f p ≡ x → Stand u
       go (refused e) h = never (starts-refused (sym h) ∙ sym k)
-      go (found q) h = let g = in-part (sym h) in last (in-part (sym (g .part))) (itemOf (debugStarts (byPlace p) (cut f p))) refl (k ∙ g .starts)
+      go (found q) h = let g = in-part (sym h) in last (in-part (sym (g .part))) (itemOf (debugStarts (cut f p))) refl (k ∙ g .starts)
 
   -- a section that reads
   pub record Reads (t : Tables Place) : Type 0 where
@@ -131,7 +131,7 @@ module _ (f : List ℕ) (p : Place) where
     pub started : startsAt f p ≡ found starts
     pub stand : Standing (byPlace p) (cut f p) starts t
 
-  pub tables-found : (t : Tables Place) → debugAt f p ≡ found t → Reads t
+  pub tables-found : (t : Tables Place) → debugTablesAt f p ≡ found t → Reads t
   tables-found t k = go (startsAt f p) refl (debugPart f p) refl
     where
       go : (x : Got DebugTables) → startsAt f p ≡ x → (y : Got Place) → debugPart f p ≡ y → Reads t

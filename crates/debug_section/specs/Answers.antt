@@ -31,10 +31,10 @@ abbrev pub startsFrom : StartsAnswer → Got DebugTables
 startsFrom (starts.Refused e) = refused (faultOf e)
 startsFrom (starts.Starts t) = found t
 
--- where they are told, the section lies in the file
-abbrev pub Lies : List ℕ → Place → StartsAnswer → Type 0
-Lies f p (starts.Refused e) = Unit {0}
-Lies f p (starts.Starts t) = Inside f p
+-- where they are told, the section lies in the file. This follows from `startsAt`; it is said beside it for callers, who cut the section out
+abbrev pub StartsInside : List ℕ → Place → StartsAnswer → Type 0
+StartsInside f p (starts.Refused e) = Unit {0}
+StartsInside f p (starts.Starts t) = Inside f p
 
 abbrev pub variableFrom : VariableAnswer → Got (Variable Place)
 variableFrom (variableAnswer.Refused e) = refused (faultOf e)
@@ -54,17 +54,17 @@ sourceFrom (sourceAnswer.Entry x) = found (sourceFileIn x)
 
 -- Enumerations and their values
 
-abbrev pub headIn : EnumDefEntry → EnumerationHead Place
-headIn e = record { named = partIn (e .«type_name»); valueCount = e .values .count }
+abbrev pub enumerationHeadIn : EnumDefEntry → EnumerationHead Place
+enumerationHeadIn e = record { named = partIn (e .«type_name»); valueCount = e .values .count }
 
 abbrev pub enumerationFrom : EnumerationAnswer → Got (EnumerationHead Place)
 enumerationFrom (enumerationAnswer.Refused e) = refused (faultOf e)
-enumerationFrom (enumerationAnswer.Entry x) = found (headIn x)
+enumerationFrom (enumerationAnswer.Entry x) = found (enumerationHeadIn x)
 
 -- the table of values of one that is answered stands behind its name and count
 abbrev pub ValuesPlaced : Place → EnumerationAnswer → Type 0
 ValuesPlaced p (enumerationAnswer.Refused e) = Unit {0}
-ValuesPlaced p (enumerationAnswer.Entry x) = x .values ≡ valuesAt p (headIn x)
+ValuesPlaced p (enumerationAnswer.Entry x) = x .values ≡ valuesAt p (enumerationHeadIn x)
 
 abbrev pub valueFrom : ValueAnswer → Got Place
 valueFrom (valueAnswer.Refused e) = refused (faultOf e)

@@ -10,7 +10,7 @@ use Rattle.format.specs.Debug.{Variable, FunctionName, SourceFile}
 use Rattle.format.specs.Record.{DebugCounts, Container}
 use Rattle.format.specs.Lookups.{EnumerationHead, debugAnswers}
 use Rattle.debug_entries.specs.Laws.{Lies, VariableLies, FunctionLies, FileLies}
-use Rattle.debug_section.specs.Lookups.{debugAt, answersAt, startsAt}
+use Rattle.debug_section.specs.Lookups.{debugTablesAt, answersAt, startsAt}
 
 -- the names and paths that are answered lie in the section, and that in the file
 pub record Lie (f : List ℕ) (p : Place) : Type 0 where
@@ -24,6 +24,6 @@ pub record Laws : Type 0 where
   -- over a record that has debug these are the format's lookups
   pub answers : (f : List ℕ) (r : Container) (c : DebugCounts) → r .debug ≡ some c → debugAnswers f r ≡ answersAt f (r .header .directory .debug)
   -- the places of the tables are refused exactly as the tables are
-  pub refused-alike : (f : List ℕ) (p : Place) (e : Fault) → startsAt f p ≡ refused e → debugAt f p ≡ refused e
-  pub found-alike : (f : List ℕ) (p : Place) (e : Fault) → debugAt f p ≡ refused e → startsAt f p ≡ refused e
+  pub refused-alike : (f : List ℕ) (p : Place) (e : Fault) → startsAt f p ≡ refused e → debugTablesAt f p ≡ refused e
+  pub found-alike : (f : List ℕ) (p : Place) (e : Fault) → debugTablesAt f p ≡ refused e → startsAt f p ≡ refused e
   pub lie : (f : List ℕ) (p : Place) → Lie f p

@@ -33,7 +33,7 @@ ghost use Rattle.base.specs.Section.{placeIn, partFrom, PartWithin};
 ghost use Rattle.line_map.specs.Answers.{lineFrom};
 ghost use Rattle.debug_section.specs.Lookups.{debugPart, startsAt, answersAt};
 ghost use Rattle.debug_section.specs.Laws.{Laws};
-ghost use Rattle.debug_section.specs.Answers.{startsFrom, Lies, variableFrom, functionNameFrom, layoutFrom, sourceFrom, enumerationFrom, ValuesPlaced, valueFrom};
+ghost use Rattle.debug_section.specs.Answers.{startsFrom, StartsInside, variableFrom, functionNameFrom, layoutFrom, sourceFrom, enumerationFrom, ValuesPlaced, valueFrom};
 
 // Where the tables in force stand; walks over them start there.
 pub enum StartsAnswer {
@@ -86,14 +86,14 @@ pub fn debug_part(file: &[u8], section: Section) -> PartAnswer
 
 // The tables in force.
 pub fn tables(file: &[u8], section: Section) -> StartsAnswer
-    ensures { λ r. ⌜ (startsFrom r ≡ startsAt (now (file .entry)) (placeIn section)) × Lies (now (file .entry)) (placeIn section) r ⌝ }
+    ensures { λ r. ⌜ (startsFrom r ≡ startsAt (now (file .entry)) (placeIn section)) × StartsInside (now (file .entry)) (placeIn section) r ⌝ }
 {
     match debug_part(file, section) {
         PartAnswer::Refused(e) => StartsAnswer::Refused(e),
         PartAnswer::Part(p) => {
             let start = p.offset;
             let end = start + p.size;
-            match read_tables(&file[start..end], start) {
+            match read_tables(&file[start..end]) {
                 TablesAnswer::Fault(_) => StartsAnswer::Refused(ContainerError::NoDebug),
                 TablesAnswer::Tables(t) => StartsAnswer::Starts(t),
             }

@@ -2,3 +2,4 @@ pub mod Payloads
 pub mod Rows
 pub mod Standing
 pub mod Counts
+pub mod Few

@@ -1,7 +1,7 @@
 -- The payload of a row, by whether its tag is listed.
 use mathlib.Core.Path.{_≡_, refl, sym, ap, subst, _∙_}
 use mathlib.Core.Bool.{true, false}
-use mathlib.Core.List.{List}
+use mathlib.Core.List.{List, map}
 use Prim.Native.Nat.{ℕ, _+_, _-_, _≤_, _<_}
 use native.Mathlib.Omega.{arith}
 use lib.ListN.{length, drop, length-drop}
@@ -9,18 +9,17 @@ use borrow.Author.Tests.{ne-eqb}
 use Rattle.reading.specs.Fault.{Fault, shortInput}
 use Rattle.reading.specs.Numbers.{leAt}
 use Rattle.reading.specs.Reader.{Read, fault, got, Reader, next, give, many, u16}
-use Rattle.reading.specs.Places.{Way, onTo, Goes}
+use Rattle.reading.specs.Places.{item, Reads, Way, stopsBy, onTo, Goes}
 use Rattle.reading.specs.declared.Table.{Table}
-use Rattle.reading.proofs.Reading.{both, bytes-at, bytes-short, number-at, number-short}
+use Rattle.reading.proofs.Reading.{never, both, then-then, bytes-at, bytes-short, number-at, number-short}
 use Rattle.reading.proofs.Tables.{many-length}
 use Rattle.format.specs.Parts.{Keep}
-use Rattle.format.specs.Debug.{line, variable, functionName, stringLayout, sourceFile, enumeration}
+use Rattle.format.specs.Debug.{line, onVariable, variable, onFunctionName, functionName, stringLayout, onSourceFile, sourceFile, enumeration}
 use Rattle.format.specs.Debug.{Kind, lines, variables, functions, strings, files, enumerations, unknown, kindOf, payload}
-use Rattle.format.specs.Debug.{ofLines, ofVariables, ofFunctions, ofStrings, ofFiles, ofEnumerations, skipped}
-use Rattle.format.specs.Debug as debug
-use Rattle.debug_tables.specs.Starts.{nowhere, putAs, putStart, isListed, entriesOf}
-use Rattle.debug_tables.specs.Answers.{kindIn, PayloadIs}
-use Rattle.debug_tables.specs.declared.DebugTables.{DebugTables}
+use Rattle.format.specs.Debug.{Payload, ofLines, ofVariables, ofFunctions, ofStrings, ofFiles, ofEnumerations}
+use Rattle.format.proofs.Keeping.{onEnumeration, Alike, stops, gives, Same, same-many, same-variable, same-functionName, same-sourceFile, same-enumeration}
+use Rattle.debug_tables.specs.Starts.{nowhere, behindCount, entriesAt, aside, payloadStart, isListed, entriesOf}
+use Rattle.debug_tables.specs.Answers.{kindIn}
 use Rattle.debug_tables.specs.declared.TableKind.{TableKind}
 
 -- a tag that is none of those listed
@@ -29,84 +28,118 @@ unfolding kindOf
 kind-else tag a b c d e f = rw (ne-eqb tag 1 a, ne-eqb tag 2 b, ne-eqb tag 3 c, ne-eqb tag 4 d, ne-eqb tag 6 e, ne-eqb tag 9 f)
 
 -- what a `match` on the kind told
-pub of-kind : {T : Type 0} (keep : Keep T) (n : ℕ) (s : List ℕ) (at : ℕ) (w : Way) {k v : TableKind} → k ≡ v → Goes (entriesOf keep (kindIn v) n) s at w → Goes (entriesOf keep (kindIn k) n) s at w
-of-kind keep n s at w e g = subst (λ (x : TableKind). Goes (entriesOf keep (kindIn x) n) s at w) (sym e) g
+pub of-kind : (n : ℕ) (s : List ℕ) (at : ℕ) (w : Way) {k v : TableKind} → k ≡ v → Goes (entriesOf (kindIn v) n) s at w → Goes (entriesOf (kindIn k) n) s at w
+of-kind n s at w e g = subst (λ (x : TableKind). Goes (entriesOf (kindIn x) n) s at w) (sym e) g
 
-then-then : {A B C : Type 0} (x : Read A) (g : A → Reader B) (h : B → Reader C) → next (next x g) h ≡ next x (λ a y. next (g a y) h)
-then-then (fault f) g h = refl
-then-then (got a y) g h = refl
+-- whatever is kept of names and paths, the same entries are passed over
+alike-stops : {A B : Type 0} (s : List ℕ) (m : B → A) {x : Read A} {y : Read B} (f : Fault) → Alike s m x y → y ≡ fault f → x ≡ fault f
+alike-stops s m f (stops d) e = cc
+alike-stops s m f (gives b t w) e = never (sym e)
+
+alike-gives : {A B : Type 0} (s : List ℕ) (m : B → A) {x : Read A} {y : Read B} (b : B) (t : List ℕ) → Alike s m x y → y ≡ got b t → x ≡ got (m b) t
+alike-gives s m b t (stops d) e = never e
+alike-gives s m b t (gives c u w) e =
+    let y : c ≡ b = cc in
+    let z : u ≡ t = cc in
+    rw (y, z)
+
+goes-same : {A B : Type 0} (s : List ℕ) (m : B → A) (r : Reader A) (q : Reader B) → Same s m r q → (at : ℕ) → at ≤ length s → (w : Way) → Goes q s at w → Goes r s at w
+goes-same s m r q h at l (stopsBy f) g = alike-stops s m f (h (drop at s) (record { behind = at; most = l; is = refl })) g
+goes-same s m r q h at l (onTo p) g = (g .0, (m (g .1 .0), alike-gives s m (g .1 .0) (drop p s) (h (drop at s) (record { behind = at; most = l; is = refl })) (g .1 .1)))
+
+abbrev pub none-kept : {T : Type 0} → T → Unit {0}
+none-kept a = tt
+
+module _ {T : Type 0} (keep : Keep T) (s : List ℕ) (n at : ℕ) (h : at ≤ length s) (w : Way) where
+  aside-goes : {A B : Type 0} (m : B → A) (r : Reader A) (q : Reader B) → Same s m r q → Goes (many n q) s at w → Goes (many n r) s at w
+  aside-goes m r q e g = goes-same s (map m) (many n r) (many n q) (same-many s m r q n e) at h w g
+
+  pub variables-aside : Goes (many n (variable keep)) s at w → Goes (many n (variable aside)) s at w
+  variables-aside = aside-goes (onVariable none-kept) (variable aside) (variable keep) (same-variable s aside keep none-kept (λ k m i. refl))
+
+  pub functions-aside : Goes (many n (functionName keep)) s at w → Goes (many n (functionName aside)) s at w
+  functions-aside = aside-goes (onFunctionName none-kept) (functionName aside) (functionName keep) (same-functionName s aside keep none-kept (λ k m i. refl))
+
+  pub files-aside : Goes (many n (sourceFile keep)) s at w → Goes (many n (sourceFile aside)) s at w
+  files-aside = aside-goes (onSourceFile none-kept) (sourceFile aside) (sourceFile keep) (same-sourceFile s aside keep none-kept (λ k m i. refl))
+
+  pub enumerations-aside : Goes (many n (enumeration keep)) s at w → Goes (many n (enumeration aside)) s at w
+  enumerations-aside = aside-goes (onEnumeration none-kept) (enumeration aside) (enumeration keep) (same-enumeration s aside keep none-kept (λ k m i. refl))
 
 -- `n` entries and a `give` behind them
 gave : {A B : Type 0} (r : Reader A) (make : List A → B) (n : ℕ) (y : List ℕ) {x : B} {rest : List ℕ} → next (many n r y) (λ es. give (make es)) ≡ got x rest → (es : List A) × (make es ≡ x) × (length es ≡ n)
 gave r make n y e = let b = both (many n r y) e in (b .item, cc, many-length r n y (b .item) (b .middle) (b .first))
 
-module _ {T : Type 0} (keep : Keep T) where
-  listed-as : (k : Kind) (size : ℕ) (x : List ℕ) → isListed k ≡ true → payload keep k size x ≡ next (u16 x) (λ n. entriesOf keep k n)
-  listed-as lines size x h = then-then (u16 x) _ _
-  listed-as variables size x h = then-then (u16 x) _ _
-  listed-as functions size x h = then-then (u16 x) _ _
-  listed-as strings size x h = then-then (u16 x) _ _
-  listed-as files size x h = then-then (u16 x) _ _
-  listed-as enumerations size x h = then-then (u16 x) _ _
-  listed-as unknown size x h = absurd (let z : _≡_ {A = ℕ} 0 1 = ap (λ b. mathlib.Core.Bool.cond b 1 0) h in omega arith)
+abbrev Entries : Type 0
+Entries = Payload (Unit {0})
 
-  -- as a table in force
-  put-in : {A : Type 0} (k : Kind) (make : List A → debug.Table T) (at n : ℕ) (x : debug.Table T)
-      → ((es : List A) (u : DebugTables) → putAs k (record { at = at + 2; count = length es }) u ≡ putStart (make es) at u)
-      → (es : List A) × (make es ≡ x) × (length es ≡ n) → (u : DebugTables) → putAs k (record { at = at + 2; count = n }) u ≡ putStart x at u
-  put-in k make at n x h (es, e, l) u =
-      ap (λ (i : ℕ). putAs k (record { at = at + 2; count = i }) u) (sym l) ∙ h es u ∙ ap (λ (y : debug.Table T). putStart y at u) e
+listed-as : (k : Kind) (size : ℕ) (x : List ℕ) → isListed k ≡ true → payload aside k size x ≡ next (u16 x) (λ n. entriesOf k n)
+listed-as lines size x h = then-then (u16 x) _ _
+listed-as variables size x h = then-then (u16 x) _ _
+listed-as functions size x h = then-then (u16 x) _ _
+listed-as strings size x h = then-then (u16 x) _ _
+listed-as files size x h = then-then (u16 x) _ _
+listed-as enumerations size x h = then-then (u16 x) _ _
+listed-as unknown size x h = absurd (let z : _≡_ {A = ℕ} 0 1 = ap (λ b. mathlib.Core.Bool.cond b 1 0) h in omega arith)
 
-  put-listed : (k : Kind) (at n : ℕ) (y : List ℕ) (x : debug.Table T) (rest : List ℕ) → isListed k ≡ true → entriesOf keep k n y ≡ got x rest
-      → (u : DebugTables) → putAs k (record { at = at + 2; count = n }) u ≡ putStart x at u
-  put-listed lines at n y x rest h e = put-in lines ofLines at n x (λ es u. refl) (gave line ofLines n y e)
-  put-listed variables at n y x rest h e = put-in variables ofVariables at n x (λ es u. refl) (gave (variable keep) ofVariables n y e)
-  put-listed functions at n y x rest h e = put-in functions ofFunctions at n x (λ es u. refl) (gave (functionName keep) ofFunctions n y e)
-  put-listed strings at n y x rest h e = put-in strings ofStrings at n x (λ es u. refl) (gave stringLayout ofStrings n y e)
-  put-listed files at n y x rest h e = put-in files ofFiles at n x (λ es u. refl) (gave (sourceFile keep) ofFiles n y e)
-  put-listed enumerations at n y x rest h e = put-in enumerations ofEnumerations at n x (λ es u. refl) (gave (enumeration keep) ofEnumerations n y e)
-  put-listed unknown at n y x rest h e = absurd (let z : _≡_ {A = ℕ} 0 1 = ap (λ b. mathlib.Core.Bool.cond b 1 0) h in omega arith)
+pub start-listed : (k : Kind) (size at : ℕ) (x : List ℕ) → isListed k ≡ true → payloadStart k size at x ≡ next (u16 x) (λ n y. next (entriesOf k n y) (λ z. give (entriesAt at z)))
+start-listed k size at x h = ap (λ (z : Read Entries). next z (λ p. give (entriesAt at p))) (listed-as k size x h) ∙ then-then (u16 x) (λ n. entriesOf k n) (λ p. give (entriesAt at p))
 
-  -- a listed table: its count, and as many entries
-  module _ (k : Kind) (size : ℕ) (s : List ℕ) (at : ℕ) (h : isListed k ≡ true) where
-    pub listed-short : length s - at < 2 → payload keep k size (drop at s) ≡ fault shortInput
-    listed-short l = let d = length-drop at s in listed-as k size (drop at s) h ∙ ap (λ z. next z (λ n. entriesOf keep k n)) (number-short 2 (drop at s) (omega arith))
+-- as many entries as the count says, behind it
+stand-in : {A : Type 0} (make : List A → Entries) (at n : ℕ) (x : Entries) → ((es : List A) → entriesAt at (make es) ≡ behindCount at (length es))
+    → (es : List A) × (make es ≡ x) × (length es ≡ n) → entriesAt at x ≡ behindCount at n
+stand-in make at n x h (es, e, l) = ap (λ (y : Entries). entriesAt at y) (sym e) ∙ h es ∙ ap (behindCount at) l
 
-    module _ (n : ℕ) (room : at + 2 ≤ length s) (e : n ≡ leAt 2 s at) where
-      listed-reads : payload keep k size (drop at s) ≡ entriesOf keep k n (drop (at + 2) s)
-      listed-reads =
-          listed-as k size (drop at s) h
-          ∙ ap (λ z. next z (λ n. entriesOf keep k n)) (number-at 2 s at (at + 2) refl room)
-          ∙ ap (λ (i : ℕ). entriesOf keep k i (drop (at + 2) s)) (sym e)
+pub stand-listed : (k : Kind) (at n : ℕ) (y : List ℕ) (x : Entries) (rest : List ℕ) → isListed k ≡ true → entriesOf k n y ≡ got x rest → entriesAt at x ≡ behindCount at n
+stand-listed lines at n y x rest h e = stand-in ofLines at n x (λ es. refl) (gave line ofLines n y e)
+stand-listed variables at n y x rest h e = stand-in ofVariables at n x (λ es. refl) (gave (variable aside) ofVariables n y e)
+stand-listed functions at n y x rest h e = stand-in ofFunctions at n x (λ es. refl) (gave (functionName aside) ofFunctions n y e)
+stand-listed strings at n y x rest h e = stand-in ofStrings at n x (λ es. refl) (gave stringLayout ofStrings n y e)
+stand-listed files at n y x rest h e = stand-in ofFiles at n x (λ es. refl) (gave (sourceFile aside) ofFiles n y e)
+stand-listed enumerations at n y x rest h e = stand-in ofEnumerations at n x (λ es. refl) (gave (enumeration aside) ofEnumerations n y e)
+stand-listed unknown at n y x rest h e = absurd (let z : _≡_ {A = ℕ} 0 1 = ap (λ b. mathlib.Core.Bool.cond b 1 0) h in omega arith)
 
-      pub listed-stop : (f : Fault) → entriesOf keep k n (drop (at + 2) s) ≡ fault f → payload keep k size (drop at s) ≡ fault f
-      listed-stop f g = listed-reads ∙ g
+-- a listed table: its count, and as many entries
+module _ (k : Kind) (size : ℕ) (s : List ℕ) (at : ℕ) (h : isListed k ≡ true) where
+  abbrev behind : ℕ → Reader Table
+  behind n y = next (entriesOf k n y) (λ z. give (entriesAt at z))
 
-      pub listed-is : (m : ℕ) → n < 65536 → Goes (entriesOf keep k n) s (at + 2) (onTo m) → PayloadIs keep k size s at (record { at = at + 2; count = n }) m
-      listed-is m b g =
-          record {
-            within = g .0;
-            item = g .1 .0;
-            reads = listed-reads ∙ g .1 .1;
-            start = put-listed k at n (drop (at + 2) s) (g .1 .0) (drop m s) h (g .1 .1);
-            small = b;
-          }
+  pub listed-short : length s - at < 2 → payloadStart k size at (drop at s) ≡ fault shortInput
+  listed-short l = let d = length-drop at s in start-listed k size at (drop at s) h ∙ ap (λ z. next z behind) (number-short 2 (drop at s) (omega arith))
 
-  -- any other: as many bytes as its row's size
-  other-as : (k : Kind) → isListed k ≡ false → k ≡ unknown
-  other-as unknown h = refl
-  other-as lines h = absurd (let z : _≡_ {A = ℕ} 0 1 = ap (λ b. mathlib.Core.Bool.cond b 0 1) h in omega arith)
-  other-as variables h = absurd (let z : _≡_ {A = ℕ} 0 1 = ap (λ b. mathlib.Core.Bool.cond b 0 1) h in omega arith)
-  other-as functions h = absurd (let z : _≡_ {A = ℕ} 0 1 = ap (λ b. mathlib.Core.Bool.cond b 0 1) h in omega arith)
-  other-as strings h = absurd (let z : _≡_ {A = ℕ} 0 1 = ap (λ b. mathlib.Core.Bool.cond b 0 1) h in omega arith)
-  other-as files h = absurd (let z : _≡_ {A = ℕ} 0 1 = ap (λ b. mathlib.Core.Bool.cond b 0 1) h in omega arith)
-  other-as enumerations h = absurd (let z : _≡_ {A = ℕ} 0 1 = ap (λ b. mathlib.Core.Bool.cond b 0 1) h in omega arith)
+  module _ (n : ℕ) (room : at + 2 ≤ length s) (e : n ≡ leAt 2 s at) where
+    listed-reads : payloadStart k size at (drop at s) ≡ behind n (drop (at + 2) s)
+    listed-reads =
+        start-listed k size at (drop at s) h
+        ∙ ap (λ z. next z behind) (number-at 2 s at (at + 2) refl room)
+        ∙ ap (λ (i : ℕ). behind i (drop (at + 2) s)) (sym e)
 
-  module _ (k : Kind) (size : ℕ) (s : List ℕ) (at : ℕ) (h : isListed k ≡ false) where
-    pub other-short : length s - at < size → payload keep k size (drop at s) ≡ fault shortInput
-    other-short l = let d = length-drop at s in rw (other-as k h, bytes-short size (drop at s) (omega arith))
+    pub listed-stop : (f : Fault) → entriesOf k n (drop (at + 2) s) ≡ fault f → payloadStart k size at (drop at s) ≡ fault f
+    listed-stop f g = listed-reads ∙ ap (λ (z : Read Entries). next z (λ x. give (entriesAt at x))) g
 
-    pub other-is : at + size ≤ length s → PayloadIs keep k size s at nowhere (at + size)
-    other-is l =
-        subst (λ (v : Kind). PayloadIs keep v size s at nowhere (at + size)) (sym (other-as k h))
-        (record { within = l; item = skipped; reads = rw (bytes-at size s at (at + size) refl l); start = λ u. refl; small = omega arith })
+    pub listed-is : (m : ℕ) → Goes (entriesOf k n) s (at + 2) (onTo m) → Reads (payloadStart k size at) s at (item (behindCount at n) m)
+    listed-is m g = (
+      g .0,
+      listed-reads
+          ∙ ap (λ (z : Read Entries). next z (λ x. give (entriesAt at x))) (g .1 .1)
+          ∙ ap (λ (t : Table). got t (drop m s)) (stand-listed k at n (drop (at + 2) s) (g .1 .0) (drop m s) h (g .1 .1)),
+    )
+
+-- any other: as many bytes as its row's size
+pub other-as : (k : Kind) → isListed k ≡ false → k ≡ unknown
+other-as unknown h = refl
+other-as lines h = absurd (let z : _≡_ {A = ℕ} 0 1 = ap (λ b. mathlib.Core.Bool.cond b 0 1) h in omega arith)
+other-as variables h = absurd (let z : _≡_ {A = ℕ} 0 1 = ap (λ b. mathlib.Core.Bool.cond b 0 1) h in omega arith)
+other-as functions h = absurd (let z : _≡_ {A = ℕ} 0 1 = ap (λ b. mathlib.Core.Bool.cond b 0 1) h in omega arith)
+other-as strings h = absurd (let z : _≡_ {A = ℕ} 0 1 = ap (λ b. mathlib.Core.Bool.cond b 0 1) h in omega arith)
+other-as files h = absurd (let z : _≡_ {A = ℕ} 0 1 = ap (λ b. mathlib.Core.Bool.cond b 0 1) h in omega arith)
+other-as enumerations h = absurd (let z : _≡_ {A = ℕ} 0 1 = ap (λ b. mathlib.Core.Bool.cond b 0 1) h in omega arith)
+
+module _ (k : Kind) (size : ℕ) (s : List ℕ) (at : ℕ) (h : isListed k ≡ false) where
+  pub other-short : length s - at < size → payloadStart k size at (drop at s) ≡ fault shortInput
+  other-short l = let d = length-drop at s in rw (other-as k h, bytes-short size (drop at s) (omega arith))
+
+  pub other-is : at + size ≤ length s → Reads (payloadStart k size at) s at (item nowhere (at + size))
+  other-is l =
+      subst (λ (v : Kind). Reads (payloadStart v size at) s at (item nowhere (at + size))) (sym (other-as k h))
+      (l, rw (bytes-at size s at (at + size) refl l))

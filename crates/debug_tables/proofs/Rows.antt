@@ -8,25 +8,24 @@ use lib.ListN.{length, take, drop, length-drop}
 use lib.Seq.{drop-drop}
 use Rattle.reading.specs.Fault.{Fault, shortInput}
 use Rattle.reading.specs.Numbers.{leAt}
-use Rattle.reading.specs.Reader.{fault, got, next, many, bytes}
+use Rattle.reading.specs.Reader.{Read, fault, got, next, many, bytes}
 use Rattle.reading.specs.Answer.{refused, found, itemOf}
+use Rattle.reading.specs.Places.{item, Reads}
 use Rattle.reading.specs.declared.Table.{Table}
 use Rattle.reading.proofs.Parts.{part-of-part}
 use Rattle.reading.proofs.Reading.{both, bytes-at, number-at, number-short}
 use Rattle.reading.proofs.Width.{fixed-bytes, fixed-many}
-use Rattle.format.specs.Parts.{Keep}
-use Rattle.format.specs.Debug.{Row, tagOf, sizeOf, Kind, lines, variables, functions, strings, files, enumerations, unknown, kindOf, payload, tableOf, rowsOf}
-use Rattle.debug_tables.specs.Starts.{noStarts, putAs, putStart, startsOf, debugStarts}
-use Rattle.debug_tables.specs.Answers.{PayloadIs, SmallCounts}
+use Rattle.format.specs.Debug.{Row, tagOf, sizeOf, Kind, kindOf, rowsOf}
+use Rattle.debug_tables.specs.Starts.{noStarts, payloadStart, putAs, debugStartsOf, debugStarts}
 use Rattle.debug_tables.specs.declared.DebugTables.{DebugTables}
 
-module _ {T : Type 0} (keep : Keep T) (s : List ℕ) where
+module _ (s : List ℕ) where
   -- a section that is too short for its count or its rows
-  pub read-short : length s < 2 → refused shortInput ≡ itemOf (debugStarts keep s)
+  pub read-short : length s < 2 → refused shortInput ≡ itemOf (debugStarts s)
   unfolding debugStarts rowsOf
   read-short h = rw (number-short 2 s h)
 
-  pub read-few : (n : ℕ) → 2 ≤ length s → n ≡ leAt 2 s 0 → length s < 2 + 8 * n → refused shortInput ≡ itemOf (debugStarts keep s)
+  pub read-few : (n : ℕ) → 2 ≤ length s → n ≡ leAt 2 s 0 → length s < 2 + 8 * n → refused shortInput ≡ itemOf (debugStarts s)
   unfolding debugStarts rowsOf
   read-few n h e l = let d = length-drop 2 s in rw (number-at 2 s 0 2 refl h, ← e, fixed-many n (fixed-bytes 8) .short (drop 2 s) (omega arith))
 
@@ -34,10 +33,10 @@ module _ {T : Type 0} (keep : Keep T) (s : List ℕ) where
   pub record Going (n p i : ℕ) (u : DebugTables) : Type 0 where
     pub rows : List Row
     pub left : many (n - i) (bytes 8) (drop (2 + 8 * i) s) ≡ got rows (drop (2 + 8 * n) s)
-    pub same : debugStarts keep s ≡ startsOf keep (length s) rows u (drop p s)
+    pub same : debugStarts s ≡ debugStartsOf (length s) rows u (drop p s)
 
   rows-read : (n : ℕ) (rows : List Row) (rest : List ℕ) → 2 ≤ length s → n ≡ leAt 2 s 0 → many n (bytes 8) (drop 2 s) ≡ got rows rest
-      → debugStarts keep s ≡ startsOf keep (length s) rows noStarts rest
+      → debugStarts s ≡ debugStartsOf (length s) rows noStarts rest
   unfolding debugStarts rowsOf
   rows-read n rows rest h e m = rw (number-at 2 s 0 2 refl h, ← e, m)
 
@@ -48,12 +47,12 @@ module _ {T : Type 0} (keep : Keep T) (s : List ℕ) where
       let m : many n (bytes 8) (drop 2 s) ≡ got (w .0) (drop (2 + 8 * n) s) = w .1 ∙ ap (got (w .0)) (drop-drop (8 * n) 2 s) in
       record { rows = w .0; left = rw (sub-zero n) m; same = rows-read n (w .0) (drop (2 + 8 * n) s) (omega arith) e m }
 
-  pub going-end : (n p i : ℕ) (u : DebugTables) → n ≤ i → Going n p i u → found u ≡ itemOf (debugStarts keep s)
+  pub going-end : (n p i : ℕ) (u : DebugTables) → n ≤ i → Going n p i u → found u ≡ itemOf (debugStarts s)
   going-end n p i u h g =
       let z : n - i ≡ 0 = omega arith in
       let e : got [] (drop (2 + 8 * i) s) ≡ got (g .rows) (drop (2 + 8 * n) s) = rw z at (g .left) in
       let r : g .rows ≡ [] = cc in
-      sym (ap itemOf (g .same ∙ ap (λ (x : List Row). startsOf keep (length s) x u (drop p s)) r))
+      sym (ap itemOf (g .same ∙ ap (λ (x : List Row). debugStartsOf (length s) x u (drop p s)) r))
 
   -- a turn: the row at hand is read by its tag and size
   module _ (n p i : ℕ) (u : DebugTables) (tag size : ℕ) (inside : 2 + 8 * n ≤ length s) (within : p ≤ length s) (h : i < n)
@@ -61,12 +60,13 @@ module _ {T : Type 0} (keep : Keep T) (s : List ℕ) where
     row : Row
     row = take 8 (drop (2 + 8 * i) s)
 
-    row-reads : tableOf keep row (drop p s) ≡ payload keep k size (drop p s)
-    unfolding tableOf tagOf sizeOf row
-    row-reads =
-        let a = part-of-part s (2 + 8 * i) 8 0 2 (omega arith) in
-        let b = part-of-part s (2 + 8 * i) 8 4 4 (omega arith) in
-        rw (kind, tagged, sized, a, b, add-zero (2 + 8 * i))
+    row-kind : kindOf (tagOf row) ≡ k
+    unfolding tagOf row
+    row-kind = let a = part-of-part s (2 + 8 * i) 8 0 2 (omega arith) in rw (kind, tagged, a, add-zero (2 + 8 * i))
+
+    row-size : sizeOf row ≡ size
+    unfolding sizeOf row
+    row-size = let b = part-of-part s (2 + 8 * i) 8 4 4 (omega arith) in rw (sized, b)
 
     others : (ds : List Row) × (g .rows ≡ row ∷ ds) × (many (n - (i + 1)) (bytes 8) (drop (2 + 8 * (i + 1)) s) ≡ got ds (drop (2 + 8 * n) s))
     unfolding row
@@ -78,37 +78,25 @@ module _ {T : Type 0} (keep : Keep T) (s : List ℕ) where
         let q : b .middle ≡ drop (2 + 8 * n) s = cc in
         (b .item, cc, b .first ∙ ap (got (b .item)) q)
 
-    section-is : debugStarts keep s ≡ next (payload keep k size (drop p s)) (λ x. startsOf keep (length s) (others .0) (putStart x p u))
+    section-is : debugStarts s ≡ next (payloadStart k size p (drop p s)) (λ t. debugStartsOf (length s) (others .0) (putAs k t u))
     section-is =
         let d = length-drop p s in
         let z : length s - length (drop p s) ≡ p = omega arith in
         g .same
-        ∙ ap (λ (rows : List Row). startsOf keep (length s) rows u (drop p s)) (others .1)
-        ∙ ap (λ (x : ℕ). next (tableOf keep row (drop p s)) (λ y. startsOf keep (length s) (others .0) (putStart y x u))) z
-        ∙ ap (λ x. next x (λ y. startsOf keep (length s) (others .0) (putStart y p u))) row-reads
+        ∙ ap (λ (rows : List Row). debugStartsOf (length s) rows u (drop p s)) (others .1)
+        ∙ ap (λ (x : ℕ). next (payloadStart (kindOf (tagOf row)) (sizeOf row) x (drop p s)) (λ t. debugStartsOf (length s) (others .0) (putAs (kindOf (tagOf row)) t u))) z
+        ∙ ap (λ (j : Kind). next (payloadStart j (sizeOf row) p (drop p s)) (λ t. debugStartsOf (length s) (others .0) (putAs j t u))) row-kind
+        ∙ ap (λ (n : ℕ). next (payloadStart k n p (drop p s)) (λ t. debugStartsOf (length s) (others .0) (putAs k t u))) row-size
 
-    pub going-bad : (f : Fault) → payload keep k size (drop p s) ≡ fault f → refused f ≡ itemOf (debugStarts keep s)
-    going-bad f e = sym (ap itemOf (section-is ∙ ap (λ x. next x (λ y. startsOf keep (length s) (others .0) (putStart y p u))) e))
+    pub going-bad : (f : Fault) → payloadStart k size p (drop p s) ≡ fault f → refused f ≡ itemOf (debugStarts s)
+    going-bad f e = sym (ap itemOf (section-is ∙ ap (λ (x : Read Table). next x (λ t. debugStartsOf (length s) (others .0) (putAs k t u))) e))
 
-    pub going-on : (t : Table) (m : ℕ) (v : DebugTables) → PayloadIs keep k size s p t m → v ≡ putAs k t u → Going n m (i + 1) v
+    pub going-on : (t : Table) (m : ℕ) (v : DebugTables) → Reads (payloadStart k size p) s p (item t m) → v ≡ putAs k t u → Going n m (i + 1) v
     going-on t m v q e =
         record {
           rows = others .0;
           left = others .2;
           same = section-is
-              ∙ ap (λ x. next x (λ y. startsOf keep (length s) (others .0) (putStart y p u))) (q .reads)
-              ∙ ap (λ (w : DebugTables). startsOf keep (length s) (others .0) w (drop m s)) (sym (e ∙ q .start u));
+              ∙ ap (λ (x : Read Table). next x (λ y. debugStartsOf (length s) (others .0) (putAs k y u))) (q .1)
+              ∙ ap (λ (w : DebugTables). debugStartsOf (length s) (others .0) w (drop m s)) (sym e);
         }
-
--- counts have two bytes
-pub none-small : SmallCounts noStarts
-none-small = record { lines = omega arith; variables = omega arith; functions = omega arith; strings = omega arith; files = omega arith; enumerations = omega arith }
-
-pub put-small : (k : Kind) (t : Table) (u : DebugTables) → t .count < 65536 → SmallCounts u → SmallCounts (putAs k t u)
-put-small lines t u h s = record { lines = h; variables = s .variables; functions = s .functions; strings = s .strings; files = s .files; enumerations = s .enumerations }
-put-small variables t u h s = record { lines = s .lines; variables = h; functions = s .functions; strings = s .strings; files = s .files; enumerations = s .enumerations }
-put-small functions t u h s = record { lines = s .lines; variables = s .variables; functions = h; strings = s .strings; files = s .files; enumerations = s .enumerations }
-put-small strings t u h s = record { lines = s .lines; variables = s .variables; functions = s .functions; strings = h; files = s .files; enumerations = s .enumerations }
-put-small files t u h s = record { lines = s .lines; variables = s .variables; functions = s .functions; strings = s .strings; files = h; enumerations = s .enumerations }
-put-small enumerations t u h s = record { lines = s .lines; variables = s .variables; functions = s .functions; strings = s .strings; files = s .files; enumerations = h }
-put-small unknown t u h s = s

@@ -1,7 +1,8 @@
--- The places of the tables in force are told if and only if the section reads, and each table stands at its place.
-use Prim.Native.Nat.{ℕ}
+-- The places of the tables in force are told if and only if the section reads, and each table stands at its place, whatever is kept of names and paths.
+use Prim.Native.Nat.{ℕ, _<_}
 use mathlib.Core.Path.{_≡_}
 use mathlib.Core.List.{List}
+use lib.ListN.{getD}
 use Rattle.reading.specs.Fault.{Fault}
 use Rattle.reading.specs.Answer.{refused, found, itemOf}
 use Rattle.reading.specs.Places.{Holds}
@@ -21,11 +22,21 @@ pub record Standing {T : Type 0} (keep : Keep T) (s : List ℕ) (u : DebugTables
   pub enumerations : Holds (enumeration keep) s (u .enumerations) (t .enumerations)
 
 -- a section that reads, with its tables
-pub record Readable {T : Type 0} (keep : Keep T) (s : List ℕ) (u : DebugTables) : Type 0 where
+pub record DebugReadable {T : Type 0} (keep : Keep T) (s : List ℕ) (u : DebugTables) : Type 0 where
   pub tables : Tables T
   pub reads : itemOf (debugTables keep s) ≡ found tables
   pub stand : Standing keep s u tables
 
+-- of a list of bytes: each count has two
+pub record TwoByteCounts (u : DebugTables) : Type 0 where
+  pub lines : u .lines .count < 65536
+  pub variables : u .variables .count < 65536
+  pub functions : u .functions .count < 65536
+  pub strings : u .strings .count < 65536
+  pub files : u .files .count < 65536
+  pub enumerations : u .enumerations .count < 65536
+
 pub record Laws : Type 0 where
-  pub unreadable : (base : ℕ) (s : List ℕ) (f : Fault) → itemOf (debugStarts (keepIn base s) s) ≡ refused f → itemOf (debugTables (keepIn base s) s) ≡ refused f
-  pub readable : (base : ℕ) (s : List ℕ) (u : DebugTables) → itemOf (debugStarts (keepIn base s) s) ≡ found u → Readable (keepIn base s) s u
+  pub unreadable : (base : ℕ) (s : List ℕ) (f : Fault) → itemOf (debugStarts s) ≡ refused f → itemOf (debugTables (keepIn base s) s) ≡ refused f
+  pub readable : (base : ℕ) (s : List ℕ) (u : DebugTables) → itemOf (debugStarts s) ≡ found u → DebugReadable (keepIn base s) s u
+  pub few : (s : List ℕ) (u : DebugTables) → ((i : ℕ) → getD s i 0 < 256) → itemOf (debugStarts s) ≡ found u → TwoByteCounts u

@@ -7,10 +7,9 @@ use lib.ListN.{length}
 use Rattle.reading.specs.Reader.{Reader, _>>=_, give, left, many}
 use Rattle.reading.specs.declared.Table.{Table}
 use Rattle.format.specs.Parts.{Keep}
-use Rattle.format.specs.Debug.{line, variable, functionName, stringLayout, sourceFile, enumeration, Row, tableOf, rowsOf}
+use Rattle.format.specs.Debug.{line, variable, functionName, stringLayout, sourceFile, enumeration, Row, tagOf, sizeOf, kindOf, payload, rowsOf}
 use Rattle.format.specs.Debug.{Kind, lines, variables, functions, strings, files, enumerations, unknown}
-use Rattle.format.specs.Debug.{ofLines, ofVariables, ofFunctions, ofStrings, ofFiles, ofEnumerations, skipped}
-use Rattle.format.specs.Debug as debug
+use Rattle.format.specs.Debug.{Payload, ofLines, ofVariables, ofFunctions, ofStrings, ofFiles, ofEnumerations, skipped}
 use Rattle.debug_tables.specs.declared.DebugTables.{DebugTables}
 
 abbrev pub nowhere : Table
@@ -35,30 +34,43 @@ putAs enumerations t u =
     record { lines = u .lines; variables = u .variables; functions = u .functions; strings = u .strings; files = u .files; enumerations = t }
 putAs unknown t u = u
 
--- the same by what was read of a payload at the place `at`
-abbrev pub putStart : {T : Type 0} → debug.Table T → ℕ → DebugTables → DebugTables
-putStart (ofLines es) at u = putAs lines (record { at = at + 2; count = length es }) u
-putStart (ofVariables es) at u = putAs variables (record { at = at + 2; count = length es }) u
-putStart (ofFunctions es) at u = putAs functions (record { at = at + 2; count = length es }) u
-putStart (ofStrings es) at u = putAs strings (record { at = at + 2; count = length es }) u
-putStart (ofFiles es) at u = putAs files (record { at = at + 2; count = length es }) u
-putStart (ofEnumerations es) at u = putAs enumerations (record { at = at + 2; count = length es }) u
-putStart skipped at u = u
+-- where the entries of a payload stand that was read at the place `at`: behind its count; a payload that is skipped has none
+abbrev pub behindCount : ℕ → ℕ → Table
+behindCount at n = record { at = at + 2; count = n }
+
+abbrev pub entriesAt : {T : Type 0} → ℕ → Payload T → Table
+entriesAt at (ofLines es) = behindCount at (length es)
+entriesAt at (ofVariables es) = behindCount at (length es)
+entriesAt at (ofFunctions es) = behindCount at (length es)
+entriesAt at (ofStrings es) = behindCount at (length es)
+entriesAt at (ofFiles es) = behindCount at (length es)
+entriesAt at (ofEnumerations es) = behindCount at (length es)
+entriesAt at skipped = nowhere
+
+-- Names and paths aside: whatever is kept of them, it moves no table
+abbrev pub aside : Keep (Unit {0})
+aside bytes behind = tt
+
+-- the payload at the place `at`, of a row of that kind and size, for where its entries stand
+abbrev pub payloadStart : Kind → ℕ → ℕ → Reader Table
+payloadStart kind size at = do
+  x ← payload aside kind size
+  give (entriesAt at x)
 
 -- The payloads, in a section of `whole` bytes (document 01: "then payloads in row order")
-abbrev pub startsOf : {T : Type 0} → Keep T → ℕ → List Row → DebugTables → Reader DebugTables
-startsOf keep whole [] u = give u
-startsOf keep whole (row ∷ rows) u = do
+abbrev pub debugStartsOf : ℕ → List Row → DebugTables → Reader DebugTables
+debugStartsOf whole [] u = give u
+debugStartsOf whole (row ∷ rows) u = do
   here ← left
-  x ← tableOf keep row
-  startsOf keep whole rows (putStart x (whole - here) u)
+  t ← payloadStart (kindOf (tagOf row)) (sizeOf row) (whole - here)
+  debugStartsOf whole rows (putAs (kindOf (tagOf row)) t u)
 
 -- the section read as `debugTables` reads it, for the places of its tables
-unfoldable pub debugStarts : {T : Type 0} → Keep T → Reader DebugTables
-debugStarts keep = do
+unfoldable pub debugStarts : Reader DebugTables
+debugStarts = do
   whole ← left
   rows ← rowsOf
-  startsOf keep whole rows noStarts
+  debugStartsOf whole rows noStarts
 
 -- Document 01 lists the tag
 abbrev pub isListed : Kind → Bool
@@ -71,11 +83,11 @@ isListed enumerations = true
 isListed unknown = false
 
 -- `n` entries of a listed table
-abbrev pub entriesOf : {T : Type 0} → Keep T → Kind → ℕ → Reader (debug.Table T)
-entriesOf keep lines n = many n line >>= λ es. give (ofLines es)
-entriesOf keep variables n = many n (variable keep) >>= λ es. give (ofVariables es)
-entriesOf keep functions n = many n (functionName keep) >>= λ es. give (ofFunctions es)
-entriesOf keep strings n = many n stringLayout >>= λ es. give (ofStrings es)
-entriesOf keep files n = many n (sourceFile keep) >>= λ es. give (ofFiles es)
-entriesOf keep enumerations n = many n (enumeration keep) >>= λ es. give (ofEnumerations es)
-entriesOf keep unknown n = give skipped
+abbrev pub entriesOf : Kind → ℕ → Reader (Payload (Unit {0}))
+entriesOf lines n = many n line >>= λ es. give (ofLines es)
+entriesOf variables n = many n (variable aside) >>= λ es. give (ofVariables es)
+entriesOf functions n = many n (functionName aside) >>= λ es. give (ofFunctions es)
+entriesOf strings n = many n stringLayout >>= λ es. give (ofStrings es)
+entriesOf files n = many n (sourceFile aside) >>= λ es. give (ofFiles es)
+entriesOf enumerations n = many n (enumeration aside) >>= λ es. give (ofEnumerations es)
+entriesOf unknown n = give skipped

@@ -1,4 +1,4 @@
-// The rows of the debug section, and where its tables in force stand. `s` is the section, and `base` its place in the file.
+// The rows of the debug section `s`, and where its tables in force stand in it. Names and paths are passed over: their place in the file does not matter.
 use debug_entries::enum_defs::skip_enum_defs;
 use debug_entries::func_names::skip_func_names;
 use debug_entries::source_files::skip_source_files;
@@ -16,13 +16,13 @@ ghost use Prim.Native.Nat.{_≤_};
 ghost use lib.ListN.{length};
 ghost use Rattle.reading.specs.Reader.{many};
 ghost use Rattle.reading.specs.Answer.{itemOf};
-ghost use Rattle.reading.specs.Places.{Goes};
+ghost use Rattle.reading.specs.Places.{Reads, Goes};
 ghost use Rattle.format.specs.Debug.{line, kindOf};
 ghost use Rattle.format.specs.Load.{debugOf};
 ghost use Rattle.format.specs.Record.{debugCounts};
-ghost use Rattle.debug_text.specs.Answers.{InFile, keepIn, wayOf};
-ghost use Rattle.debug_tables.specs.Starts.{noStarts, isListed, entriesOf, putAs, debugStarts};
-ghost use Rattle.debug_tables.specs.Answers.{kindIn, PayloadReads, tablesFrom, Small, maybeDebug};
+ghost use Rattle.debug_text.specs.Answers.{wayOf};
+ghost use Rattle.debug_tables.specs.Starts.{noStarts, isListed, entriesOf, payloadStart, putAs, debugStarts};
+ghost use Rattle.debug_tables.specs.Answers.{kindIn, payloadStep, debugTablesFrom, maybeDebug};
 ghost use Rattle.debug_tables.specs.Laws.{Laws};
 
 const TAG_LINE_MAP: u16 = 1;
@@ -129,25 +129,25 @@ fn skip_lines(s: &[u8], at: usize, n: usize) -> DebugWalk
 }
 
 // A walk over the `n` entries of a table of that kind from `at` on.
-fn skip_entries(s: &[u8], base: usize, at: usize, kind: TableKind, n: usize) -> DebugWalk
-    requires { ⌜ (at ≤ length (now s)) × InFile base (now s) ⌝ }
-    ensures { λ r. ⌜ Goes (entriesOf (keepIn base (now (s .entry))) (kindIn kind) n) (now (s .entry)) at (wayOf r) ⌝ }
+fn skip_entries(s: &[u8], at: usize, kind: TableKind, n: usize) -> DebugWalk
+    requires { ⌜ at ≤ length (now s) ⌝ }
+    ensures { λ r. ⌜ Goes (entriesOf (kindIn kind) n) (now (s .entry)) at (wayOf r) ⌝ }
 {
     match kind {
         TableKind::Lines => skip_lines(s, at, n),
-        TableKind::Variables => skip_var_names(s, base, at, n),
-        TableKind::Functions => skip_func_names(s, base, at, n),
+        TableKind::Variables => skip_var_names(s, 0, at, n),
+        TableKind::Functions => skip_func_names(s, 0, at, n),
         TableKind::Strings => skip_string_layouts(s, at, n),
-        TableKind::Files => skip_source_files(s, base, at, n),
-        TableKind::Enumerations => skip_enum_defs(s, base, at, n),
+        TableKind::Files => skip_source_files(s, 0, at, n),
+        TableKind::Enumerations => skip_enum_defs(s, 0, at, n),
         TableKind::Unknown => DebugWalk::At(at),
     }
 }
 
 // The payload at `at`: a listed table is read by its own count, any other is skipped by its row's size.
-fn read_payload(s: &[u8], base: usize, at: usize, kind: TableKind, size: usize) -> PayloadStep
-    requires { ⌜ (at ≤ length (now s)) × InFile base (now s) ⌝ }
-    ensures { λ r. ⌜ PayloadReads (keepIn base (now (s .entry))) (kindIn kind) size (now (s .entry)) at r ⌝ }
+fn read_payload(s: &[u8], at: usize, kind: TableKind, size: usize) -> PayloadStep
+    requires { ⌜ at ≤ length (now s) ⌝ }
+    ensures { λ r. ⌜ Reads (payloadStart (kindIn kind) size at) (now (s .entry)) at (payloadStep r) ⌝ }
 {
     if is_listed(kind) {
         if s.len() - at < 2 {
@@ -155,7 +155,7 @@ fn read_payload(s: &[u8], base: usize, at: usize, kind: TableKind, size: usize) 
         }
         let first = at + 2;
         let count = u16_at(s, at) as usize;
-        return match skip_entries(s, base, first, kind, count) {
+        return match skip_entries(s, first, kind, count) {
             DebugWalk::Fault(e) => PayloadStep::Fault(e),
             DebugWalk::At(m) => PayloadStep::Table(Table { at: first, count }, m),
         };
@@ -210,9 +210,8 @@ fn no_tables() -> DebugTables
 }
 
 // The section's reader: why it does not read, or where its tables in force stand.
-pub fn read_tables(s: &[u8], base: usize) -> TablesAnswer
-    requires { ⌜ InFile base (now s) ⌝ }
-    ensures { λ r. ⌜ (tablesFrom r ≡ itemOf (debugStarts (keepIn base (now (s .entry))) (now (s .entry)))) × Small r ⌝ }
+pub fn read_tables(s: &[u8]) -> TablesAnswer
+    ensures { λ r. ⌜ debugTablesFrom r ≡ itemOf (debugStarts (now (s .entry))) ⌝ }
 {
     if s.len() < 2 {
         return TablesAnswer::Fault(DebugFault::Short);
@@ -227,7 +226,7 @@ pub fn read_tables(s: &[u8], base: usize) -> TablesAnswer
     while i < n {
         let row = 2 + DIR_ENTRY_SIZE * i;
         let kind = kind_of(u16_at(s, row));
-        match read_payload(s, base, p, kind, u32_at(s, row + 4) as usize) {
+        match read_payload(s, p, kind, u32_at(s, row + 4) as usize) {
             PayloadStep::Fault(e) => {
                 return TablesAnswer::Fault(e);
             }
@@ -245,7 +244,7 @@ pub fn read_tables(s: &[u8], base: usize) -> TablesAnswer
 pub fn read_from(s: &[u8]) -> MaybeDebug
     ensures { λ r. ⌜ maybeDebug r ≡ debugCounts (debugOf (now (s .entry))) ⌝ }
 {
-    match read_tables(s, 0) {
+    match read_tables(s) {
         TablesAnswer::Fault(_) => MaybeDebug::None,
         TablesAnswer::Tables(t) => MaybeDebug::Some(DebugCounts {
             lines: t.lines.count as u16,

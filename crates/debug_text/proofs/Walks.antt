@@ -6,16 +6,17 @@ use Prim.Native.Nat.{ℕ, zero, suc, _+_, _-_, _≤_, _<_}
 use native.Mathlib.Decide.{decLe}
 use native.Mathlib.Omega.{arith}
 use lib.ListN.{length, drop, length-drop}
-use borrow.Author.Tests.{eq-eqb, ne-eqb, lt-ltb, le-ltb}
+use borrow.Author.Tests.{lt-ltb, le-ltb}
 use Rattle.reading.specs.Fault.{Fault, shortInput}
 use Rattle.reading.specs.Reader.{Read, fault, got, Reader, next, give, many}
 use Rattle.reading.specs.Answer.{Got, refused, found, itemOf, indexed}
-use Rattle.reading.specs.Places.{Step, stops, item, Reads, onTo, Goes, Next, ends, faulty, entry, nextOf, stepOf}
+use Rattle.reading.specs.Places.{Step, stops, item, Reads, onTo, Goes, Next, faulty, entry, stepOf}
 use Rattle.reading.specs.declared.Table.{Table}
 use Rattle.reading.proofs.Width.{Needs}
 use Rattle.reading.proofs.Passing.{Passed, passed-stop, passed-more, reads-told}
 use Rattle.reading.proofs.Tables.{at-walked, index-out, never-stops}
 use Rattle.format.specs.Faults.{noEntry}
+use Rattle.base.proofs.FileLookups.{step-stops, step-entry}
 use Rattle.debug_text.specs.Picked.{picked}
 
 -- what an entry that was read makes of a lookup, and of a step
@@ -89,20 +90,12 @@ module _ {A : Type 0} (r : Reader A) (s : List ℕ) where
   -- Steps
 
   module _ (t : Table) where
-    pub step-none : t .count ≡ 0 → ends ≡ stepOf r s t
-    unfolding stepOf
-    step-none h = rw (eq-eqb (t .count) 0 h)
-
     pub step-read : {v w : Step A} → (t .count ≡ 0 → ⊥) → v ≡ w → Reads r s (t .at) v → nextBy t w ≡ stepOf r s t
-    unfolding stepOf
-    step-read {v} {w} h e q = rw (ne-eqb (t .count) 0 h) (go w (reads-told r s (t .at) e q))
+    step-read {v} {w} h e q = go w (reads-told r s (t .at) e q)
       where
-        go : (w : Step A) → Reads r s (t .at) w → nextBy t w ≡ nextOf s t (r (drop (t .at) s))
-        go (stops f) q = rw q
-        go (item a m) q =
-            let l = q .0 in
-            let z : length s - length (drop m s) ≡ m = simp length-drop (omega arith) in
-            rw (q .1, z)
+        go : (w : Step A) → Reads r s (t .at) w → nextBy t w ≡ stepOf r s t
+        go (stops f) q = step-stops r s t h q
+        go (item a m) q = step-entry r s t h (q .0) (q .1)
 
     pub step-past : (w : ℕ) → Needs w r → 0 < w → (t .count ≡ 0 → ⊥) → length s < t .at → faulty shortInput ≡ stepOf r s t
     step-past w e z h l = let d = length-drop (t .at) s in step-read {v = stops shortInput} h refl (e (drop (t .at) s) (omega arith))

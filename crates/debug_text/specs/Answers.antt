@@ -28,26 +28,26 @@ abbrev pub keepIn : ℕ → List ℕ → Keep Place
 keepIn base s = byPlace (record { offset = base; size = length s })
 
 -- a fault never leaves the section: one that does not read is 15
-abbrev pub faultOf : DebugFault → Fault
-faultOf debugFault.Short = shortInput
-faultOf (debugFault.BadText n) = badText n
+abbrev pub debugFaultOf : DebugFault → Fault
+debugFaultOf debugFault.Short = shortInput
+debugFaultOf (debugFault.BadText n) = badText n
 
 abbrev pub wayOf : DebugWalk → Way
-wayOf (walk.Fault e) = stopsBy (faultOf e)
+wayOf (walk.Fault e) = stopsBy (debugFaultOf e)
 wayOf (walk.At m) = onTo m
 
 -- Names and paths
 
 abbrev pub textStep : TextStep → Step Place
-textStep (stepText.Fault e) = stops (faultOf e)
+textStep (stepText.Fault e) = stops (debugFaultOf e)
 textStep (stepText.Text x m) = item (partIn x) m
 
 abbrev pub nameFrom : NameAnswer → Got Place
-nameFrom (answerName.Fault e) = refused (faultOf e)
+nameFrom (answerName.Fault e) = refused (debugFaultOf e)
 nameFrom answerName.NoEntry = refused noEntry
 nameFrom (answerName.Name x) = found (partIn x)
 
 abbrev pub nameNext : NameNext → Next Place
 nameNext nextName.End = ends
-nameNext (nextName.Fault e) = faulty (faultOf e)
+nameNext (nextName.Fault e) = faulty (debugFaultOf e)
 nameNext (nextName.Name x t) = entry (partIn x) t

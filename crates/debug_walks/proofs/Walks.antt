@@ -1,14 +1,12 @@
 -- Walks over the tables in force give the tables.
 use mathlib.Core.Path.{_≡_, refl, sym, ap, subst, _∙_}
-use mathlib.Core.Bool.{Bool, true, false, cond}
 use mathlib.Core.List.{List, [], _∷_, map}
 use Prim.Native.Nat.{ℕ, zero, suc, _+_, _-_, _≤_}
 use native.Mathlib.Omega.{arith}
-use lib.Dec.{eqb}
 use lib.ListN.{length, drop}
-use Rattle.reading.specs.Reader.{Read, fault, got, Reader, many, counted}
+use Rattle.reading.specs.Reader.{got, Reader, many, counted}
 use Rattle.reading.specs.Answer.{Got, found, _>>=_, indexed, itemOf}
-use Rattle.reading.specs.Places.{Next, ends, faulty, entry, nextOf, stepOf, onNext, driven, walked, leftOf, Holds}
+use Rattle.reading.specs.Places.{Next, ends, faulty, entry, stepOf, onNext, driven, walked, leftOf, Holds}
 use Rattle.reading.specs.declared.Table.{Table}
 use Rattle.reading.proofs.Reading.{both}
 use Rattle.reading.proofs.Left.{LeftOf, left-at, Stays, stays-local, walk-is-table}
@@ -18,26 +16,16 @@ use Rattle.format.specs.Parts.{Place, cut, Keep, byPlace}
 use Rattle.format.specs.Debug.{line, name, variable, functionName, stringLayout, sourceFile, Enumeration, enumeration, Tables}
 use Rattle.format.proofs.Answers.{never, same-found, steps}
 use Rattle.format.proofs.Readers.{local-line}
-use Rattle.base.proofs.FileLookups.{sliced, step-ends}
+use Rattle.base.proofs.FileLookups.{sliced, step-ends, step-count}
 use Rattle.debug_text.specs.Answers.{keepIn}
 use Rattle.debug_text.proofs.Texts.{name-ends}
 use Rattle.debug_entries.proofs.Giving as entries
-use Rattle.debug_section.specs.Lookups.{debugAt}
-use Rattle.debug_walks.specs.Steps.{noDebugStep, stepBy, stepAt, entryOf, onEntry}
+use Rattle.debug_section.specs.Lookups.{debugTablesAt}
+use Rattle.debug_walks.specs.Steps.{noDebugStep, debugStepBy, debugStepAt, entryOf, onEntry}
 use Rattle.debug_walks.specs.Laws.{Gives, Walks, Laws}
 use Rattle.debug_section.proofs.Parts.{moved, tables-found}
 
 module _ {A : Type 0} where
-  -- a step over an entry leaves one entry fewer
-  pub step-count : (r : Reader A) (s : List ℕ) (t : Table) {a : A} {u : Table} → stepOf r s t ≡ entry a u → u .count ≡ t .count - 1
-  unfolding stepOf
-  step-count r s t {a} {u} e = go (eqb (t .count) 0) (r (drop (t .at) s)) e
-    where
-      go : (z : Bool) (y : Read A) → cond z ends (nextOf s t y) ≡ entry a u → u .count ≡ t .count - 1
-      go true y e = absurd (let z : _≡_ {A = ℕ} 0 1 = cc in omega arith)
-      go false (fault f) e = absurd (let z : _≡_ {A = ℕ} 0 1 = cc in omega arith)
-      go false (got b x) e = let z : record { at = length s - length x; count = t .count - 1 } ≡ u = cc in sym (ap (λ (v : Table). v .count) z)
-
   -- no step is left behind a table's last entry
   none-left : (r : Reader A) (s : List ℕ) (step : Table → Next A) → ((u : Table) → step u ≡ noDebugStep (stepOf r s u)) → (n : ℕ) (t : Table) → t .count ≡ 0 → driven step n t ≡ found []
   none-left r s step h zero t z = refl
@@ -110,25 +98,25 @@ module _ (base : ℕ) (s : List ℕ) where
       subst (λ (v : Enumeration Place). Holds (name (keepIn base s)) s (record { at = v .named .offset + v .named .size + 2 - base; count = length (v .values) }) (v .values)) z
       (subst (λ (at : ℕ). Holds (name (keepIn base s)) s (record { at = at; count = length (q .item) }) (q .item)) (omega arith) stands)
 
-module _ (f : List ℕ) (p : Place) (t : Tables Place) (d : debugAt f p ≡ found t) where
+module _ (f : List ℕ) (p : Place) (t : Tables Place) (d : debugTablesAt f p ≡ found t) where
   reads : Rattle.debug_section.proofs.Parts.Reads f p t
   reads = tables-found f p t d
 
-  step-is : {A : Type 0} (r : Reader A) (u : Table) → stepAt f p r u ≡ noDebugStep (stepOf r (cut f p) u)
-  step-is r u = ap (λ (x : Got Place). stepBy f x r u) (reads .part .part)
+  step-is : {A : Type 0} (r : Reader A) (u : Table) → debugStepAt f p r u ≡ noDebugStep (stepOf r (cut f p) u)
+  step-is r u = ap (λ (x : Got Place). debugStepBy f x r u) (reads .part .part)
 
   -- a table whose walk over the section's bytes is known
   abbrev Walkable : {A : Type 0} → (Keep Place → Reader A) → Keep Place → List ℕ → Type 0
   Walkable r keep s = (u : Table) → walked (u .count) (r keep) s u ≡ itemOf (leftOf (r keep) s u)
 
   gives : {A : Type 0} (r : Keep Place → Reader A) (u : Table) (xs : List A) → Walkable r (keepIn (p .offset) (sliced f p)) (sliced f p) → Holds (r (byPlace p)) (cut f p) u xs
-      → Gives (stepAt f p (r (byPlace p))) u xs
+      → Gives (debugStepAt f p (r (byPlace p))) u xs
   gives r u xs w h =
       λ n l.
-      driven-gives (r (byPlace p)) (cut f p) (stepAt f p (r (byPlace p))) (step-is (r (byPlace p))) (u .count) n u xs refl l
+      driven-gives (r (byPlace p)) (cut f p) (debugStepAt f p (r (byPlace p))) (step-is (r (byPlace p))) (u .count) n u xs refl l
       (walk-gives (r (byPlace p)) (cut f p) u xs (moved f p refl (reads .part .inside) (Walkable r) w u) h)
 
-  values : (i : ℕ) (e : Enumeration Place) → indexed noEntry (t .enumerations) i ≡ found e → Gives (stepAt f p (name (byPlace p))) (entryOf p e .values) (e .values)
+  values : (i : ℕ) (e : Enumeration Place) → indexed noEntry (t .enumerations) i ≡ found e → Gives (debugStepAt f p (name (byPlace p))) (entryOf p e .values) (e .values)
   values i e k =
       gives name (entryOf p e .values) (e .values) (entries.laws .names (p .offset) (sliced f p) .walk)
       (moved f p refl (reads .part .inside)
@@ -152,7 +140,7 @@ module _ (f : List ℕ) (p : Place) (t : Tables Place) (d : debugAt f p ≡ foun
         functions = gives functionName (u .functions) (t .functions) (l .functions o b .walk) (s .functions);
         strings = gives (λ keep. stringLayout) (u .strings) (t .strings) (l .strings b .walk) (s .strings);
         files = gives sourceFile (u .files) (t .files) (l .files o b .walk) (s .files);
-        enumerations = λ n k. driven-made (entryOf p) (stepAt f p (enumeration (byPlace p))) _ (λ v y e. ap (onEntry (entryOf p)) e) n (u .enumerations) (t .enumerations)
+        enumerations = λ n k. driven-made (entryOf p) (debugStepAt f p (enumeration (byPlace p))) _ (λ v y e. ap (onEntry (entryOf p)) e) n (u .enumerations) (t .enumerations)
             (gives enumeration (u .enumerations) (t .enumerations) (l .enumerations o b .walk) (s .enumerations) n k);
         values = values;
       }

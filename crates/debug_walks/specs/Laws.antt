@@ -1,16 +1,16 @@
 -- Walks over the tables in force of a section that reads: the steps of each, driven from where the table starts, give the table.
-use Prim.Native.Nat.{ℕ, zero, suc, _≤_}
-use mathlib.Core.List.{List, [], map}
+use Prim.Native.Nat.{ℕ, _≤_}
+use mathlib.Core.List.{List, map}
 use mathlib.Core.Path.{_≡_}
-use Rattle.reading.specs.Answer.{Got, found, indexed}
+use Rattle.reading.specs.Answer.{found, indexed}
 use Rattle.reading.specs.Places.{Next, driven}
 use Rattle.reading.specs.declared.Table.{Table}
 use Rattle.format.specs.Faults.{noEntry}
 use Rattle.format.specs.Parts.{Place, byPlace}
 use Rattle.format.specs.Debug.{line, name, variable, functionName, stringLayout, sourceFile, Enumeration, Tables}
 use Rattle.debug_tables.specs.declared.DebugTables.{DebugTables}
-use Rattle.debug_section.specs.Lookups.{debugAt, startsAt}
-use Rattle.debug_walks.specs.Steps.{stepAt, entryOf, enumerationStep}
+use Rattle.debug_section.specs.Lookups.{debugTablesAt, startsAt}
+use Rattle.debug_walks.specs.Steps.{debugStepAt, entryOf, enumerationStep}
 
 -- from a table on, as many steps as it has entries give them, and more steps give no more
 abbrev pub Gives : {A : Type 0} → (Table → Next A) → Table → List A → Type 0
@@ -19,13 +19,13 @@ Gives step t xs = (n : ℕ) → t .count ≤ n → driven step n t ≡ found xs
 pub record Walks (f : List ℕ) (p : Place) (t : Tables Place) : Type 0 where
   pub starts : DebugTables
   pub started : startsAt f p ≡ found starts
-  pub lines : Gives (stepAt f p line) (starts .lines) (t .lines)
-  pub variables : Gives (stepAt f p (variable (byPlace p))) (starts .variables) (t .variables)
-  pub functions : Gives (stepAt f p (functionName (byPlace p))) (starts .functions) (t .functions)
-  pub strings : Gives (stepAt f p stringLayout) (starts .strings) (t .strings)
-  pub files : Gives (stepAt f p (sourceFile (byPlace p))) (starts .files) (t .files)
+  pub lines : Gives (debugStepAt f p line) (starts .lines) (t .lines)
+  pub variables : Gives (debugStepAt f p (variable (byPlace p))) (starts .variables) (t .variables)
+  pub functions : Gives (debugStepAt f p (functionName (byPlace p))) (starts .functions) (t .functions)
+  pub strings : Gives (debugStepAt f p stringLayout) (starts .strings) (t .strings)
+  pub files : Gives (debugStepAt f p (sourceFile (byPlace p))) (starts .files) (t .files)
   pub enumerations : Gives (enumerationStep f p) (starts .enumerations) (map (entryOf p) (t .enumerations))
-  pub values : (i : ℕ) (e : Enumeration Place) → indexed noEntry (t .enumerations) i ≡ found e → Gives (stepAt f p (name (byPlace p))) (entryOf p e .values) (e .values)
+  pub values : (i : ℕ) (e : Enumeration Place) → indexed noEntry (t .enumerations) i ≡ found e → Gives (debugStepAt f p (name (byPlace p))) (entryOf p e .values) (e .values)
 
 pub record Laws : Type 0 where
-  pub walks : (f : List ℕ) (p : Place) (t : Tables Place) → debugAt f p ≡ found t → Walks f p t
+  pub walks : (f : List ℕ) (p : Place) (t : Tables Place) → debugTablesAt f p ≡ found t → Walks f p t

@@ -9,7 +9,7 @@ use Rattle.format.specs.Faults.{noDebug}
 use Rattle.format.specs.Parts.{Place, cut, byPlace}
 use Rattle.format.specs.Debug.{Enumeration, enumeration}
 use Rattle.format.specs.Lookups.{EnumerationHead}
-use Rattle.debug_section.specs.Lookups.{debugPart, valuesAt, headOf}
+use Rattle.debug_section.specs.Lookups.{debugPart, valuesAt, enumerationHeadOf}
 
 -- an entry that does not read gives 15
 abbrev pub noDebugStep : {A : Type 0} → Next A → Next A
@@ -17,12 +17,12 @@ noDebugStep ends = ends
 noDebugStep (faulty e) = faulty noDebug
 noDebugStep (entry a t) = entry a t
 
-abbrev pub stepBy : {A : Type 0} → List ℕ → Got Place → Reader A → Table → Next A
-stepBy f (refused e) r t = faulty e
-stepBy f (found p) r t = noDebugStep (stepOf r (cut f p) t)
+abbrev pub debugStepBy : {A : Type 0} → List ℕ → Got Place → Reader A → Table → Next A
+debugStepBy f (refused e) r t = faulty e
+debugStepBy f (found p) r t = noDebugStep (stepOf r (cut f p) t)
 
-abbrev pub stepAt : {A : Type 0} → List ℕ → Place → Reader A → Table → Next A
-stepAt f p r t = stepBy f (debugPart f p) r t
+abbrev pub debugStepAt : {A : Type 0} → List ℕ → Place → Reader A → Table → Next A
+debugStepAt f p r t = debugStepBy f (debugPart f p) r t
 
 -- Enumerations: a step answers the head, and the table of the values' names
 
@@ -31,7 +31,7 @@ pub record EnumerationEntry : Type 0 where
   pub values : Table
 
 abbrev pub entryOf : Place → Enumeration Place → EnumerationEntry
-entryOf p e = record { head = headOf e; values = valuesAt p (headOf e) }
+entryOf p e = record { head = enumerationHeadOf e; values = valuesAt p (enumerationHeadOf e) }
 
 abbrev pub onEntry : {A B : Type 0} → (A → B) → Next A → Next B
 onEntry m ends = ends
@@ -39,4 +39,4 @@ onEntry m (faulty e) = faulty e
 onEntry m (entry a t) = entry (m a) t
 
 abbrev pub enumerationStep : List ℕ → Place → Table → Next EnumerationEntry
-enumerationStep f p t = onEntry (entryOf p) (stepAt f p (enumeration (byPlace p)) t)
+enumerationStep f p t = onEntry (entryOf p) (debugStepAt f p (enumeration (byPlace p)) t)

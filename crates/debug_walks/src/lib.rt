@@ -29,7 +29,7 @@ ghost use Rattle.format.specs.Parts.{byPlace};
 ghost use Rattle.format.specs.Debug.{line, name, variable, functionName, stringLayout, sourceFile};
 ghost use Rattle.base.specs.Section.{placeIn};
 ghost use Rattle.line_map.specs.Answers.{lineNextFrom};
-ghost use Rattle.debug_walks.specs.Steps.{stepAt, enumerationStep};
+ghost use Rattle.debug_walks.specs.Steps.{debugStepAt, enumerationStep};
 ghost use Rattle.debug_walks.specs.Answers.{variableNextFrom, functionNameNextFrom, layoutNextFrom, sourceNextFrom, enumerationNextFrom, valueNextFrom};
 ghost use Rattle.debug_walks.specs.Laws.{Laws};
 
@@ -72,7 +72,7 @@ pub enum ValueNext {
 
 // The next line of a walk.
 pub fn next_line(file: &[u8], section: Section, t: Table) -> LineNext
-    ensures { λ r. ⌜ lineNextFrom r ≡ stepAt (now (file .entry)) (placeIn section) line t ⌝ }
+    ensures { λ r. ⌜ lineNextFrom r ≡ debugStepAt (now (file .entry)) (placeIn section) line t ⌝ }
 {
     match debug_part(file, section) {
         PartAnswer::Refused(e) => LineNext::Refused(e),
@@ -90,7 +90,7 @@ pub fn next_line(file: &[u8], section: Section, t: Table) -> LineNext
 
 // The next variable of a walk.
 pub fn next_variable(file: &[u8], section: Section, t: Table) -> VariableNext
-    ensures { λ r. ⌜ variableNextFrom r ≡ stepAt (now (file .entry)) (placeIn section) (variable (byPlace (placeIn section))) t ⌝ }
+    ensures { λ r. ⌜ variableNextFrom r ≡ debugStepAt (now (file .entry)) (placeIn section) (variable (byPlace (placeIn section))) t ⌝ }
 {
     match debug_part(file, section) {
         PartAnswer::Refused(e) => VariableNext::Refused(e),
@@ -108,7 +108,7 @@ pub fn next_variable(file: &[u8], section: Section, t: Table) -> VariableNext
 
 // The next function name of a walk.
 pub fn next_function_name(file: &[u8], section: Section, t: Table) -> FunctionNameNext
-    ensures { λ r. ⌜ functionNameNextFrom r ≡ stepAt (now (file .entry)) (placeIn section) (functionName (byPlace (placeIn section))) t ⌝ }
+    ensures { λ r. ⌜ functionNameNextFrom r ≡ debugStepAt (now (file .entry)) (placeIn section) (functionName (byPlace (placeIn section))) t ⌝ }
 {
     match debug_part(file, section) {
         PartAnswer::Refused(e) => FunctionNameNext::Refused(e),
@@ -126,7 +126,7 @@ pub fn next_function_name(file: &[u8], section: Section, t: Table) -> FunctionNa
 
 // The next string layout of a walk.
 pub fn next_string_layout(file: &[u8], section: Section, t: Table) -> LayoutNext
-    ensures { λ r. ⌜ layoutNextFrom r ≡ stepAt (now (file .entry)) (placeIn section) stringLayout t ⌝ }
+    ensures { λ r. ⌜ layoutNextFrom r ≡ debugStepAt (now (file .entry)) (placeIn section) stringLayout t ⌝ }
 {
     match debug_part(file, section) {
         PartAnswer::Refused(e) => LayoutNext::Refused(e),
@@ -144,7 +144,7 @@ pub fn next_string_layout(file: &[u8], section: Section, t: Table) -> LayoutNext
 
 // The next source file of a walk.
 pub fn next_source_file(file: &[u8], section: Section, t: Table) -> SourceNext
-    ensures { λ r. ⌜ sourceNextFrom r ≡ stepAt (now (file .entry)) (placeIn section) (sourceFile (byPlace (placeIn section))) t ⌝ }
+    ensures { λ r. ⌜ sourceNextFrom r ≡ debugStepAt (now (file .entry)) (placeIn section) (sourceFile (byPlace (placeIn section))) t ⌝ }
 {
     match debug_part(file, section) {
         PartAnswer::Refused(e) => SourceNext::Refused(e),
@@ -180,7 +180,7 @@ pub fn next_enumeration(file: &[u8], section: Section, t: Table) -> EnumerationN
 
 // The next value name of a walk over the values of an enumeration.
 pub fn next_value(file: &[u8], section: Section, t: Table) -> ValueNext
-    ensures { λ r. ⌜ valueNextFrom r ≡ stepAt (now (file .entry)) (placeIn section) (name (byPlace (placeIn section))) t ⌝ }
+    ensures { λ r. ⌜ valueNextFrom r ≡ debugStepAt (now (file .entry)) (placeIn section) (name (byPlace (placeIn section))) t ⌝ }
 {
     match debug_part(file, section) {
         PartAnswer::Refused(e) => ValueNext::Refused(e),

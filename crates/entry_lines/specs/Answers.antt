@@ -3,9 +3,9 @@ use Prim.Native.Nat.{ℕ}
 use mathlib.Core.List.{List}
 use Rattle.format.specs.Constants.{Constant, onConstant}
 use Rattle.base.specs.Section.{bytesOf}
-use Rattle.constant_pool.specs.Answers.{entryIn}
+use Rattle.constant_pool.specs.Answers.{constIn}
 use Rattle.constant_pool.specs.declared.ConstEntry.{ConstEntry}
 
 -- a string's are those of its part of the file
 abbrev pub withBytes : List ℕ → ConstEntry → Constant (List ℕ)
-withBytes file c = onConstant (bytesOf file) (entryIn c)
+withBytes file c = onConstant (bytesOf file) (constIn c)

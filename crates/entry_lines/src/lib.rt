@@ -1,15 +1,15 @@
 // The lines of the lister for the entries of a file's tables, one function for each kind. Each puts its line at the place `at` of the
-// lent buffer, and answers the place behind it.
+// lent buffer, and answers the place behind it. It asks for room that is enough for any line of its kind (`specs/Lines.antt`).
 ghost use Prim.Native.Nat.{_+_, _*_, _≤_};
 ghost use mathlib.Core.Path.{_≡_};
 ghost use lib.ListN.{length};
 ghost use Rattle.reading.specs.Numbers.{bytesLe};
 ghost use Rattle.text.specs.Text.{Wrote};
 ghost use Rattle.task_table.specs.Answers.{taskIn, programIn};
-ghost use Rattle.type_entries.specs.Answers.{headIn, fieldIn, arrayIn, userFbIn};
-ghost use Rattle.code_section.specs.Answers.{entryIn};
+ghost use Rattle.type_entries.specs.Answers.{fbTypeHeadIn, fieldIn, arrayIn, userFbIn};
+ghost use Rattle.code_section.specs.Answers.{funcIn};
 ghost use Rattle.line_map.specs.Answers.{lineIn};
-ghost use Rattle.entry_lines.specs.Lines.{lineRoom, taskLine, programLine, fbTypeLine, fieldLine, arrayLine, userFbLine, constantLine, functionLine, lineLine};
+ghost use Rattle.entry_lines.specs.Lines.{lineRoom, constantRoom, taskLine, programLine, fbTypeLine, fieldLine, arrayLine, userFbLine, constantLine, functionLine, lineLine};
 ghost use Rattle.entry_lines.specs.Answers.{withBytes};
 ghost use Rattle.entry_lines.specs.Laws.{Laws};
 use base::id_types::ConstantIndex;
@@ -66,7 +66,7 @@ pub fn put_program(out: &mut [u8], at: usize, p: ProgramInstanceEntry) -> usize
 
 pub fn put_fb_type(out: &mut [u8], at: usize, b: FbTypeDescriptor) -> usize
     requires { ⌜ at + lineRoom ≤ length (now out) ⌝ }
-    ensures { λ r. ⌜ Wrote (now (out .entry)) at (fbTypeLine (headIn b)) (now (out .exit)) r ⌝ }
+    ensures { λ r. ⌜ Wrote (now (out .entry)) at (fbTypeLine (fbTypeHeadIn b)) (now (out .exit)) r ⌝ }
 {
     let ns = [b.type_id.0 as u64, b.num_fields as u64];
     put_line(out, at, b"fbtype", &ns)
@@ -140,7 +140,7 @@ pub fn put_constant(
     c: ConstEntry,
     file: &[u8],
 ) -> usize
-    requires { ⌜ at + 2 * length (now file) + 100 ≤ length (now out) ⌝ }
+    requires { ⌜ at + constantRoom (now file) ≤ length (now out) ⌝ }
     ensures { λ r. ⌜ Wrote (now (out .entry)) at (constantLine (index .0) (withBytes (now (file .entry)) c)) (now (out .exit)) r ⌝ }
 {
     let const_type = c.const_type;
@@ -160,7 +160,7 @@ pub fn put_constant(
 
 pub fn put_function(out: &mut [u8], at: usize, f: FuncEntry) -> usize
     requires { ⌜ at + lineRoom ≤ length (now out) ⌝ }
-    ensures { λ r. ⌜ Wrote (now (out .entry)) at (functionLine (entryIn f)) (now (out .exit)) r ⌝ }
+    ensures { λ r. ⌜ Wrote (now (out .entry)) at (functionLine (funcIn f)) (now (out .exit)) r ⌝ }
 {
     let ns = [
         f.function_id.0 as u64,

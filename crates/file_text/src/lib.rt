@@ -3,7 +3,7 @@ ghost use mathlib.Core.Option.{some};
 ghost use Rattle.base.specs.Error.{faultOf};
 ghost use Rattle.base.specs.Section.{placeIn};
 ghost use Rattle.header.specs.Answers.{headerIn};
-ghost use Rattle.debug_tables.specs.Answers.{countsIn, maybeDebug};
+ghost use Rattle.debug_tables.specs.Answers.{debugCountsIn, maybeDebug};
 ghost use Rattle.record.specs.Answers.{maybeTypes, containerIn};
 ghost use Rattle.entry_lines.specs.Lines.{lineRoom};
 ghost use Rattle.listing.specs.Lines.{containerLine, debugLine, endLine, refusedLine};
@@ -126,7 +126,7 @@ fn put_counts_and_lines(
     section: Section,
     counts: DebugCounts,
 ) -> Put
-    ensures { λ r. ⌜ Puts (now (out .entry)) at (debugText (now (file .entry)) (placeIn section) (some (countsIn counts))) lineRoom (now (out .exit)) r ⌝ }
+    ensures { λ r. ⌜ Puts (now (out .entry)) at (debugText (now (file .entry)) (placeIn section) (some (debugCountsIn counts))) lineRoom (now (out .exit)) r ⌝ }
 {
     match debug_line(out, at, MaybeDebug::Some(counts)) {
         Put::NoRoom => Put::NoRoom,

@@ -1,11 +1,13 @@
 -- Laws of answers one behind the other.
 use Prim.Native.Nat.{ℕ}
-use mathlib.Core.Path.{_≡_, refl}
+use mathlib.Core.Path.{_≡_, refl, sym, ap}
 use mathlib.Core.Bool.{Bool, true, false, _&&_}
+use mathlib.Core.List.{List}
 use mathlib.Core.Option.{none, some}
 use native.Mathlib.Omega.{arith}
 use Rattle.reading.specs.Fault.{Fault}
-use Rattle.reading.specs.Answer.{Got, refused, found, _>>=_, need}
+use Rattle.reading.specs.Reader.{Read, fault, got}
+use Rattle.reading.specs.Answer.{Got, refused, found, _>>=_, need, itemOf}
 
 pub never : {A B : Type 0} {r : Fault} {a : A} → refused r ≡ found a → B
 never e = absurd (let z : _≡_ {A = ℕ} 0 1 = cc in omega arith)
@@ -50,3 +52,26 @@ first-of false t e = e
 pub second-of : (s t : Bool) → s && t ≡ true → t ≡ true
 second-of true t e = e
 second-of false t e = absurd (let z : _≡_ {A = ℕ} 0 1 = cc in omega arith)
+
+-- an answer made of another: of what both begin with, a refusal is the refusal of either
+pub refused-then : {A B C : Type 0} (x : Got A) (m : A → B) (g : A → Got C) (f : Fault) → refused f ≡ (x >>= λ a. found (m a)) → refused f ≡ (x >>= g)
+refused-then (refused r) m g f h = cc
+refused-then (found a) m g f h = never h
+
+pub found-then : {A B C : Type 0} (x : Got A) (m : A → B) (g : B → C) (b : B) → found b ≡ (x >>= λ a. found (m a)) → found (g b) ≡ (x >>= λ a. found (g (m a)))
+found-then (refused r) m g b h = never (sym h)
+found-then (found a) m g b h = let z : b ≡ m a = cc in ap (λ v. found (g v)) z
+
+-- the first answer decides, or the second is asked of it
+pub refused-first : {A B C : Type 0} (x : Got A) (k : A → Got B) (g : A → B → Got C) (f : Fault) → (x >>= k) ≡ refused f → refused f ≡ (x >>= λ a. (k a >>= g a))
+refused-first (refused r) k g f h = cc
+refused-first (found a) k g f h = rw h
+
+pub found-first : {A B C : Type 0} (x : Got A) (k : A → Got B) (g : B → Got C) (b : B) → (x >>= k) ≡ found b → g b ≡ (x >>= λ a. (k a >>= g))
+found-first (refused r) k g b h = never h
+found-first (found a) k g b h = rw h
+
+-- what a section whose item is found has read
+pub item-got : {A : Type 0} (x : Read A) (a : A) → itemOf x ≡ found a → (rest : List ℕ) × (x ≡ got a rest)
+item-got (fault f) a e = never e
+item-got (got b rest) a e = (rest, ap (λ v. got v rest) (same-found e))

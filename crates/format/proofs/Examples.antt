@@ -15,11 +15,11 @@ use Rattle.format.specs.Tasks as task
 use Rattle.format.specs.Types as types
 use Rattle.format.specs.Constants as pool
 use Rattle.format.specs.Code as code
-use Rattle.format.specs.Debug.{line, tagOf, sizeOf, kindOf, tableOf, rowsOf, debugTables}
+use Rattle.format.specs.Debug.{line, tagOf, sizeOf, kindOf, payloadOf, rowsOf, debugTables}
 use Rattle.format.specs.Lines.{sorted, lineFor}
 use Rattle.format.specs.Integrity.{maskedHeader, sectionIn, hashedIn, hashedString, contentFits, debugHashFits}
 use Rattle.format.specs.Load.{load, readIn, hasTypes, typesFound, debugOf, debugFound}
-use Rattle.format.specs.Lookups.{readAt, debugIn}
+use Rattle.format.specs.Lookups.{readAt, debugAt, debugIn}
 use Rattle.format.specs.RunSide.{placed, empty, SameRunSide}
 use Rattle.format.specs.Added.{RowAndPayload, end, kept, added, Added}
 use Rattle.format.specs.Examples.{lineRow, lineTable, lines, unknownRow, unknownTable, linesMore, mill, stripped, millMore, typesInside, typesBefore, tiny, displaced, hashed}
@@ -109,7 +109,7 @@ content-hash-needed hash =
 
 -- the sections: M's has the row of lines, the other an unknown row before it
 pub sections : Added lines linesMore
-unfolding rowsOf bytes le tableOf tagOf sizeOf kindOf line
+unfolding rowsOf bytes le payloadOf tagOf sizeOf kindOf line
 sections =
     let known : RowAndPayload = record { row = lineRow 0; payload = lineTable } in
     let other : RowAndPayload = record { row = unknownRow; payload = unknownTable } in
@@ -124,7 +124,7 @@ sections =
     }
 
 pub second-half-speaks : (hash : List ℕ → List ℕ) → SecondHalfSpeaks hash
-unfolding load headerOf runtimeOf directoryOf le bytes contentFits readIn sectionIn isInside task.taskTable task.task task.program typesFound hasTypes types.typeTables types.fbType types.array types.userFb pool.constants pool.constant pool.keptOf code.codeOf code.function debugFound debugOf debugHashFits debugTables rowsOf tableOf tagOf sizeOf kindOf line debugIn lineFor sorted
+unfolding load headerOf runtimeOf directoryOf le bytes contentFits readIn sectionIn isInside task.taskTable task.task task.program typesFound hasTypes types.typeTables types.fbType types.array types.userFb pool.constants pool.constant pool.keptOf code.codeOf code.function debugFound debugOf debugHashFits debugTables rowsOf payloadOf tagOf sizeOf kindOf line debugIn debugAt lineFor sorted
 second-half-speaks hash =
     let a = the-found (load hash mill) tt in
     let b = the-found (load hash millMore) tt in
@@ -148,7 +148,7 @@ second-half-speaks hash =
 -- The starred cases, and the wrong turns
 
 pub cases : (hash : List ℕ → List ℕ) → Cases hash
-unfolding load headerOf runtimeOf directoryOf le bytes contentFits readIn sectionIn isInside task.taskTable task.task task.program typesFound hasTypes types.typeTables types.fbType types.array types.userFb pool.constants pool.constant pool.keptOf code.codeOf code.function debugFound debugOf debugHashFits debugTables rowsOf tableOf tagOf sizeOf kindOf line debugIn lineFor sorted utf8 goodLength goodAfter sequenceAt
+unfolding load headerOf runtimeOf directoryOf le bytes contentFits readIn sectionIn isInside task.taskTable task.task task.program typesFound hasTypes types.typeTables types.fbType types.array types.userFb pool.constants pool.constant pool.keptOf code.codeOf code.function debugFound debugOf debugHashFits debugTables rowsOf payloadOf tagOf sizeOf kindOf line debugIn debugAt lineFor sorted utf8 goodLength goodAfter sequenceAt
 cases hash =
     record {
       strides = (refl, refl, λ extra. refl, refl);
@@ -169,5 +169,5 @@ cases hash =
     }
 
 pub wrong-turns : (hash : List ℕ → List ℕ) → WrongTurns hash
-unfolding load headerOf runtimeOf directoryOf le bytes contentFits readIn sectionIn isInside task.taskTable task.task task.program typesFound hasTypes types.typeTables types.fbType types.array types.userFb pool.constants pool.constant pool.keptOf code.codeOf code.function readAt debugFound debugOf debugHashFits debugTables rowsOf tableOf tagOf sizeOf kindOf line debugIn lineFor sorted
+unfolding load headerOf runtimeOf directoryOf le bytes contentFits readIn sectionIn isInside task.taskTable task.task task.program typesFound hasTypes types.typeTables types.fbType types.array types.userFb pool.constants pool.constant pool.keptOf code.codeOf code.function readAt debugFound debugOf debugHashFits debugTables rowsOf payloadOf tagOf sizeOf kindOf line debugIn debugAt lineFor sorted
 wrong-turns hash = record { flag-not-asked = refl; row-size-ignored = refl; stored-id-ignored = refl; last-of-equals = refl }

@@ -18,8 +18,8 @@ use Rattle.format.specs.Constants.{string, onKept, onConstant, keptOf, i
 use Rattle.format.specs.Constants as kept
 use Rattle.format.specs.Faults.{invalidConstantType}
 use Rattle.format.specs.Debug.{text, name, path, line, onVariable, variable, onFunctionName, functionName, stringLayout, onSourceFile, sourceFile, Enumeration, enumeration}
-use Rattle.format.specs.Debug.{Kind, lines, variables, functions, strings, files, enumerations, unknown, payload, Row, tagOf, sizeOf, kindOf, tableOf}
-use Rattle.format.specs.Debug.{Table, ofLines, ofVariables, ofFunctions, ofStrings, ofFiles, ofEnumerations, skipped, Tables, noTables, put, tablesOf, rowsOf, debugTables}
+use Rattle.format.specs.Debug.{Kind, lines, variables, functions, strings, files, enumerations, unknown, payload, Row, tagOf, sizeOf, kindOf, payloadOf}
+use Rattle.format.specs.Debug.{Payload, ofLines, ofVariables, ofFunctions, ofStrings, ofFiles, ofEnumerations, skipped, Tables, noTables, put, tablesOf, rowsOf, debugTables}
 use Rattle.format.proofs.Readers.{local-line, local-stringLayout}
 
 -- The same tables with `h` of what stands for a name or a path
@@ -28,14 +28,14 @@ module _ {T U : Type 0} (h : U → T) where
   abbrev pub onEnumeration : Enumeration U → Enumeration T
   onEnumeration e = record { named = h (e .named); values = map h (e .values) }
 
-  abbrev pub onTable : Table U → Table T
-  onTable (ofLines es) = ofLines es
-  onTable (ofVariables es) = ofVariables (map (onVariable h) es)
-  onTable (ofFunctions es) = ofFunctions (map (onFunctionName h) es)
-  onTable (ofStrings es) = ofStrings es
-  onTable (ofFiles es) = ofFiles (map (onSourceFile h) es)
-  onTable (ofEnumerations es) = ofEnumerations (map onEnumeration es)
-  onTable skipped = skipped
+  abbrev pub onPayload : Payload U → Payload T
+  onPayload (ofLines es) = ofLines es
+  onPayload (ofVariables es) = ofVariables (map (onVariable h) es)
+  onPayload (ofFunctions es) = ofFunctions (map (onFunctionName h) es)
+  onPayload (ofStrings es) = ofStrings es
+  onPayload (ofFiles es) = ofFiles (map (onSourceFile h) es)
+  onPayload (ofEnumerations es) = ofEnumerations (map onEnumeration es)
+  onPayload skipped = skipped
 
   abbrev pub onTables : Tables U → Tables T
   onTables t =
@@ -78,7 +78,7 @@ module _ (whole : List ℕ) where
   same-then : {A C D : Type 0} (n : D → C) (r : Reader A) (go : A → Reader C) (ho : A → Reader D) → Local r → ((a : A) → Same n (go a) (ho a)) → Same n (r >>= go) (r >>= ho)
   same-then n r go ho l k = same-bind (λ a. a) n r r go ho (same-local l) k
 
-  same-many : {A B : Type 0} (m : B → A) (r : Reader A) (q : Reader B) (n : ℕ) → Same m r q → Same (map m) (many n r) (many n q)
+  pub same-many : {A B : Type 0} (m : B → A) (r : Reader A) (q : Reader B) (n : ℕ) → Same m r q → Same (map m) (many n r) (many n q)
   same-many m r q zero h = λ s w. gives [] s w
   same-many m r q (suc n) h =
       same-bind m (map m) r q _ _ h (λ b. same-bind (map m) (map m) (many n r) (many n q) _ _ (same-many m r q n h) (λ bs s w. gives (b ∷ bs) s w))
@@ -113,7 +113,7 @@ module _ (whole : List ℕ) where
     unfolding path
     same-path = same-then h (number 2) _ _ (local-number 2) same-text
 
-    same-variable : Same (onVariable h) (variable keep) (variable other)
+    pub same-variable : Same (onVariable h) (variable keep) (variable other)
     unfolding variable
     same-variable =
         same-then (onVariable h) (number 2) _ _ (local-number 2) λ i.
@@ -123,42 +123,42 @@ module _ (whole : List ℕ) where
         same-bind h (onVariable h) (name keep) (name other) _ _ same-name λ n.
         same-bind h (onVariable h) (name keep) (name other) _ _ same-name λ y s w. gives _ s w
 
-    same-functionName : Same (onFunctionName h) (functionName keep) (functionName other)
+    pub same-functionName : Same (onFunctionName h) (functionName keep) (functionName other)
     unfolding functionName
     same-functionName =
         same-then (onFunctionName h) (number 2) _ _ (local-number 2) λ i.
         same-bind h (onFunctionName h) (name keep) (name other) _ _ same-name λ n s w. gives _ s w
 
-    same-sourceFile : Same (onSourceFile h) (sourceFile keep) (sourceFile other)
+    pub same-sourceFile : Same (onSourceFile h) (sourceFile keep) (sourceFile other)
     unfolding sourceFile
     same-sourceFile =
         same-bind h (onSourceFile h) (path keep) (path other) _ _ same-path λ p.
         same-then (onSourceFile h) (bytes 32) _ _ (local-bytes 32) λ b s w. gives _ s w
 
-    same-enumeration : Same (onEnumeration h) (enumeration keep) (enumeration other)
+    pub same-enumeration : Same (onEnumeration h) (enumeration keep) (enumeration other)
     unfolding enumeration
     same-enumeration =
         same-bind h (onEnumeration h) (name keep) (name other) _ _ same-name λ n.
         same-bind (map h) (onEnumeration h) (counted (name keep)) (counted (name other)) _ _ (same-counted h (name keep) (name other) same-name) λ vs s w. gives _ s w
 
-    same-payload : (k : Kind) (size : ℕ) → Same (onTable h) (payload keep k size) (payload other k size)
-    same-payload lines size = same-then (onTable h) (counted line) _ _ (local-counted local-line) λ es s w. gives (ofLines es) s w
+    same-payload : (k : Kind) (size : ℕ) → Same (onPayload h) (payload keep k size) (payload other k size)
+    same-payload lines size = same-then (onPayload h) (counted line) _ _ (local-counted local-line) λ es s w. gives (ofLines es) s w
     same-payload variables size =
-        same-bind (map (onVariable h)) (onTable h) _ _ _ _ (same-counted (onVariable h) (variable keep) (variable other) same-variable) λ es s w. gives (ofVariables es) s w
+        same-bind (map (onVariable h)) (onPayload h) _ _ _ _ (same-counted (onVariable h) (variable keep) (variable other) same-variable) λ es s w. gives (ofVariables es) s w
     same-payload functions size =
-        same-bind (map (onFunctionName h)) (onTable h) _ _ _ _ (same-counted (onFunctionName h) (functionName keep) (functionName other) same-functionName) λ es s w. gives (ofFunctions es) s w
-    same-payload strings size = same-then (onTable h) (counted stringLayout) _ _ (local-counted local-stringLayout) λ es s w. gives (ofStrings es) s w
+        same-bind (map (onFunctionName h)) (onPayload h) _ _ _ _ (same-counted (onFunctionName h) (functionName keep) (functionName other) same-functionName) λ es s w. gives (ofFunctions es) s w
+    same-payload strings size = same-then (onPayload h) (counted stringLayout) _ _ (local-counted local-stringLayout) λ es s w. gives (ofStrings es) s w
     same-payload files size =
-        same-bind (map (onSourceFile h)) (onTable h) _ _ _ _ (same-counted (onSourceFile h) (sourceFile keep) (sourceFile other) same-sourceFile) λ es s w. gives (ofFiles es) s w
+        same-bind (map (onSourceFile h)) (onPayload h) _ _ _ _ (same-counted (onSourceFile h) (sourceFile keep) (sourceFile other) same-sourceFile) λ es s w. gives (ofFiles es) s w
     same-payload enumerations size =
-        same-bind (map (onEnumeration h)) (onTable h) _ _ _ _ (same-counted (onEnumeration h) (enumeration keep) (enumeration other) same-enumeration) λ es s w. gives (ofEnumerations es) s w
-    same-payload unknown size = same-then (onTable h) (bytes size) _ _ (local-bytes size) λ b s w. gives skipped s w
+        same-bind (map (onEnumeration h)) (onPayload h) _ _ _ _ (same-counted (onEnumeration h) (enumeration keep) (enumeration other) same-enumeration) λ es s w. gives (ofEnumerations es) s w
+    same-payload unknown size = same-then (onPayload h) (bytes size) _ _ (local-bytes size) λ b s w. gives skipped s w
 
-    pub same-table : (row : Row) → Same (onTable h) (tableOf keep row) (tableOf other row)
-    unfolding tableOf
-    same-table row = same-payload (kindOf (tagOf row)) (sizeOf row)
+    pub same-row : (row : Row) → Same (onPayload h) (payloadOf keep row) (payloadOf other row)
+    unfolding payloadOf
+    same-row row = same-payload (kindOf (tagOf row)) (sizeOf row)
 
-    put-on : (x : Table U) (t : Tables U) → put (onTable h x) (onTables h t) ≡ onTables h (put x t)
+    put-on : (x : Payload U) (t : Tables U) → put (onPayload h x) (onTables h t) ≡ onTables h (put x t)
     put-on (ofLines es) t = refl
     put-on (ofVariables es) t = refl
     put-on (ofFunctions es) t = refl
@@ -170,7 +170,7 @@ module _ (whole : List ℕ) where
     same-tables : (rows : List Row) (t : Tables U) → Same (onTables h) (tablesOf keep rows (onTables h t)) (tablesOf other rows t)
     same-tables [] t = λ s w. gives t s w
     same-tables (row ∷ rows) t =
-        same-bind (onTable h) (onTables h) (tableOf keep row) (tableOf other row) _ _ (same-table row) λ x. rw (put-on x t) (same-tables rows (put x t))
+        same-bind (onPayload h) (onTables h) (payloadOf keep row) (payloadOf other row) _ _ (same-row row) λ x. rw (put-on x t) (same-tables rows (put x t))
 
     pub same-debug : Same (onTables h) (debugTables keep) (debugTables other)
     unfolding debugTables rowsOf

@@ -18,7 +18,7 @@ use Rattle.format.specs.Tasks as task
 use Rattle.format.specs.Types as types
 use Rattle.format.specs.Constants as pool
 use Rattle.format.specs.Code as code
-use Rattle.format.specs.Debug.{line, variable, functionName, stringLayout, sourceFile, enumeration, text, name, path, tagOf, sizeOf, kindOf, tableOf, rowsOf, debugTables}
+use Rattle.format.specs.Debug.{line, variable, functionName, stringLayout, sourceFile, enumeration, text, name, path, tagOf, sizeOf, kindOf, payloadOf, rowsOf, debugTables}
 use Rattle.format.specs.Lines.{sorted, lineFor}
 use Rattle.format.specs.Load.{load, readIn, hasTypes, typesFound, debugOf, debugFound}
 use Rattle.format.specs.Layouts.{Layouts, MillCounts, HashLimit}
@@ -26,7 +26,7 @@ use Rattle.format.proofs.Answers.{never, same-found, steps}
 use Rattle.format.proofs.Places.{inside-is, length-cut}
 
 pub layouts : Layouts
-unfolding le bytes runtimeOf directoryOf maskedHeader sectionIn hashedIn hashedString isInside task.taskTable task.task task.program types.fbType types.field types.array types.userFb pool.constant pool.keptOf code.function line variable functionName stringLayout sourceFile enumeration text name path tagOf sizeOf kindOf tableOf rowsOf debugTables sorted lineFor debugOf utf8 goodLength goodAfter sequenceAt
+unfolding le bytes runtimeOf directoryOf maskedHeader sectionIn hashedIn hashedString isInside task.taskTable task.task task.program types.fbType types.field types.array types.userFb pool.constant pool.keptOf code.function line variable functionName stringLayout sourceFile enumeration text name path tagOf sizeOf kindOf payloadOf rowsOf debugTables sorted lineFor debugOf utf8 goodLength goodAfter sequenceAt
 layouts =
     record {
       header = refl;
@@ -56,7 +56,7 @@ layouts =
     }
 
 pub mill-counts : (hash : List ℕ → List ℕ) → MillCounts hash
-unfolding load headerOf runtimeOf directoryOf le bytes contentFits readIn sectionIn isInside task.taskTable task.task task.program typesFound hasTypes types.typeTables types.fbType types.array types.userFb pool.constants pool.constant pool.keptOf code.codeOf code.function debugFound debugOf debugHashFits debugTables rowsOf tableOf tagOf sizeOf kindOf line
+unfolding load headerOf runtimeOf directoryOf le bytes contentFits readIn sectionIn isInside task.taskTable task.task task.program typesFound hasTypes types.typeTables types.fbType types.array types.userFb pool.constants pool.constant pool.keptOf code.codeOf code.function debugFound debugOf debugHashFits debugTables rowsOf payloadOf tagOf sizeOf kindOf line
 mill-counts hash = record { tasks = refl; types = refl; constants = refl; debug = refl }
 
 -- What is hashed is bounded

@@ -1,6 +1,6 @@
 -- Over a file and its own record every lookup is indexing into what was loaded.
 use Prim.Native.Nat.{ℕ}
-use mathlib.Core.Path.{_≡_, refl, _∙_}
+use mathlib.Core.Path.{_≡_, _∙_}
 use mathlib.Core.Bool.{true}
 use mathlib.Core.List.{List}
 use mathlib.Core.Option.{Option, none, some}
@@ -15,7 +15,7 @@ use Rattle.format.specs.Types.{TypeTables, typeTables}
 use Rattle.format.specs.Debug.{Tables, debugTables}
 use Rattle.format.specs.Load.{Loaded, load, readIn, readable, typesFound, debugOf, debugFound}
 use Rattle.format.specs.Record.{typeCounts, debugCounts, recordOf}
-use Rattle.format.specs.Lookups.{readAt, tasksIn, typesBy, typesIn, constantsIn, codeIn, orNoDebug, debugBy, debugIn}
+use Rattle.format.specs.Lookups.{readAt, tasksIn, typesBy, typesIn, constantsIn, codeIn, orNoDebug, debugAt, debugBy, debugIn}
 use Rattle.format.specs.OwnRecord.{OwnRecord}
 use Rattle.format.proofs.Answers.{absent, same-some}
 use Rattle.format.proofs.Places.{read-is}
@@ -53,15 +53,15 @@ pub record Own (f : List ℕ) (l : Loaded) : Type 0 where
 
 debug-own : (hash : List ℕ → List ℕ) (f : List ℕ) (l : Loaded) → leb (length f) limit ≡ true → debugFound hash f (l .header) ≡ l .debug
     → debugIn (λ p. byBytes) f (recordOf l) ≡ present noDebug (l .debug)
-unfolding debugIn
-debug-own hash f l s e = rw s (go (l .debug) e)
+unfolding debugIn debugAt
+debug-own hash f l s e = go (l .debug) e
   where
     p : Place
     p = l .header .directory .debug
 
     go : (x : Option (Tables (List ℕ))) → debugFound hash f (l .header) ≡ x → debugBy byBytes f p (debugCounts x) ≡ present noDebug x
-    go none e = refl
-    go (some t) e = let k = debug-read hash f (l .header) t e in rw (read-is f p (debugTables byBytes) (k .0)) (debug-of (cut f p) t (k .1))
+    go none e = rw s
+    go (some t) e = let k = debug-read hash f (l .header) t e in rw (s, read-is f p (debugTables byBytes) (k .0)) (debug-of (cut f p) t (k .1))
 
 pub own : (hash : List ℕ → List ℕ) (f : List ℕ) (l : Loaded) → load hash f ≡ found l → Own f l
 own hash f l e =

@@ -1,15 +1,16 @@
 -- Sections that lie inside a file.
-use Prim.Native.Nat.{ℕ, _+_}
-use mathlib.Core.Path.{_≡_, refl}
+use Prim.Native.Nat.{ℕ, _+_, _-_, _≤_}
+use native.Mathlib.Omega.{arith}
+use mathlib.Core.Path.{_≡_, refl, sym}
 use mathlib.Core.Bool.{Bool, true, false}
 use mathlib.Core.List.{List, [], _∷_}
 use lib.Dec.{leb}
-use lib.ListN.{length}
+use lib.ListN.{length, take, drop}
 use borrow.Author.Tests.{le-leb, leb-true, eq-eqb}
 use Rattle.reading.specs.Reader.{Reader}
 use Rattle.reading.specs.Answer.{found, itemOf}
 use Rattle.reading.proofs.Parts.{length-part}
-use Rattle.format.specs.Parts.{Place, cut, isInside, Inside, same}
+use Rattle.format.specs.Parts.{Place, cut, isInside, Inside, same, byPlace}
 use Rattle.format.specs.Integrity.{sectionIn}
 use Rattle.format.specs.Load.{readIn}
 use Rattle.format.proofs.Answers.{first-of, second-of}
@@ -48,3 +49,10 @@ read-is f p r h = rw (section-is f p h)
 pub same-refl : (s : List ℕ) → same s s ≡ true
 same-refl [] = refl
 same-refl (a ∷ s) = rw (eq-eqb a a refl) (same-refl s)
+
+-- a part of a section that is taken for a whole file: by its place it has its bytes
+pub placed-alone : (s : List ℕ) (k n : ℕ) → k + n ≤ length s → take n (drop k s) ≡ cut s (byPlace (record { offset = 0; size = length s }) (take n (drop k s)) (length s - k - n))
+placed-alone s k n i =
+    let m = length-part s k n i in
+    let o : 0 + length s - (length s - k - n) - n ≡ k = omega arith in
+    sym (rw (m, o))

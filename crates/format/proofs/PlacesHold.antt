@@ -11,12 +11,12 @@ use lib.Seq.{drop-drop}
 use borrow.Author.Tests.{leb-true}
 use Rattle.reading.specs.Fault.{Fault}
 use Rattle.reading.specs.Reader.{Read, fault, got, Reader, many}
-use Rattle.reading.specs.Answer.{Got, refused, found, _>>=_, need, indexed, itemOf}
+use Rattle.reading.specs.Answer.{Got, refused, found, _>>=_, _>>_, need, indexed, itemOf}
 use Rattle.reading.proofs.Parts.{length-part, part-of-part}
 use Rattle.reading.proofs.Reading.{both}
 use Rattle.reading.proofs.Left.{LeftOf, left-all, left-taken}
 use Rattle.reading.proofs.Local.{local-many}
-use Rattle.format.specs.Faults.{tooLong, sectionSizeMismatch, invalidConstantIndex, noFunction, noEntry}
+use Rattle.format.specs.Faults.{tooLong, sectionSizeMismatch, invalidConstantIndex, noFunction, noDebug, noEntry}
 use Rattle.format.specs.Parts.{limit, part, Place, cut, isInside, Keep, byBytes, byPlace}
 use Rattle.format.specs.Tasks.{TaskTable}
 use Rattle.format.specs.Types.{TypeTables}
@@ -27,7 +27,7 @@ use Rattle.format.specs.Lines.{lineFor}
 use Rattle.format.specs.Integrity.{sectionIn}
 use Rattle.format.specs.Load.{readIn}
 use Rattle.format.specs.Record.{DebugCounts, Container}
-use Rattle.format.specs.Lookups.{readAt, orNoDebug, debugBy, debugIn, constantsIn, codeIn, constantOf, numberOf, stringOf, charWidthOf, functionOf, functionBytesOf}
+use Rattle.format.specs.Lookups.{readAt, orNoDebug, debugAt, debugBy, debugIn, constantsIn, codeIn, constantOf, numberOf, stringOf, charWidthOf, functionOf, functionBytesOf}
 use Rattle.format.specs.Lookups.{tasksIn, typesIn, taskOf, programOf, fbTypeOf, fieldOf, arrayOf, arraySizeOf, userFbOf}
 use Rattle.format.specs.Lookups.{EnumerationHead, runAnswersOf, debugAnswersOf, runByBytes, debugByBytes}
 use Rattle.format.specs.OwnRecord.{PlacesHold}
@@ -84,8 +84,8 @@ constants-at f p =
     read-at-on f p (map (onConstant (cut f))) (constants byBytes) (constants (byPlace p)) (λ h. same-constants (cut f p) byBytes (byPlace p) (cut f) (placed f p h))
 
 pub debug-on : (f : List ℕ) (r : Container) → debugIn (λ p. byBytes) f r ≡ (debugIn byPlace f r >>= λ t. found (onTables (cut f) t))
-unfolding debugIn
-debug-on f r = go (leb (length f) limit) (r .debug)
+unfolding debugIn debugAt
+debug-on f r = go (r .debug)
   where
     p : Place
     p = r .header .directory .debug
@@ -94,16 +94,20 @@ debug-on f r = go (leb (length f) limit) (r .debug)
     through x (refused e) q = rw q
     through x (found t) q = rw q
 
-    by : (d : Option DebugCounts) → debugBy byBytes f p d ≡ (debugBy (byPlace p) f p d >>= λ t. found (onTables (cut f) t))
-    by none = refl
-    by (some c) =
+    at : (z : Bool) → (need z tooLong >>= λ u. orNoDebug (readIn f p (debugTables byBytes)))
+        ≡ ((need z tooLong >>= λ u. orNoDebug (readIn f p (debugTables (byPlace p)))) >>= λ t. found (onTables (cut f) t))
+    at true =
         through (readIn f p (debugTables byBytes)) (readIn f p (debugTables (byPlace p)))
         (read-on f p (onTables (cut f)) (debugTables byBytes) (debugTables (byPlace p)) (λ h. same-debug (cut f p) byBytes (byPlace p) (cut f) (placed f p h)))
+    at false = refl
 
-    go : (z : Bool) (d : Option DebugCounts) → (need z tooLong >>= λ u. debugBy byBytes f p d)
-        ≡ ((need z tooLong >>= λ u. debugBy (byPlace p) f p d) >>= λ t. found (onTables (cut f) t))
-    go true d = by d
-    go false d = refl
+    none-on : (z : Bool) → (need z tooLong >> refused noDebug) ≡ ((need z tooLong >> refused noDebug) >>= λ t. found (onTables (cut f) t))
+    none-on true = refl
+    none-on false = refl
+
+    go : (d : Option DebugCounts) → debugBy byBytes f p d ≡ (debugBy (byPlace p) f p d >>= λ t. found (onTables (cut f) t))
+    go none = none-on (leb (length f) limit)
+    go (some c) = at (leb (length f) limit)
 
 -- Lookups in the constants
 

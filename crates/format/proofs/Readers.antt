@@ -11,7 +11,7 @@ use Rattle.reading.proofs.Reading.{never, both}
 use Rattle.reading.proofs.Local.{Local, local-give, local-bind, local-bytes, local-number, local-counted}
 use Rattle.format.specs.Parts.{byBytes}
 use Rattle.format.specs.Code.{function}
-use Rattle.format.specs.Debug.{text, name, path, line, variable, functionName, stringLayout, sourceFile, enumeration, Row, tagOf, sizeOf, kindOf, tableOf}
+use Rattle.format.specs.Debug.{text, name, path, line, variable, functionName, stringLayout, sourceFile, enumeration, Row, tagOf, sizeOf, kindOf, payloadOf}
 use Rattle.format.specs.Debug.{Kind, lines, variables, functions, strings, files, enumerations, unknown, payload}
 
 pub local-function : Local function
@@ -96,6 +96,6 @@ local-payload files size = local-bind (local-counted local-sourceFile) λ es. lo
 local-payload enumerations size = local-bind (local-counted local-enumeration) λ es. local-give _
 local-payload unknown size = local-bind (local-bytes size) λ b. local-give _
 
-pub local-table : (row : Row) → Local (tableOf byBytes row)
-unfolding tableOf
+pub local-table : (row : Row) → Local (payloadOf byBytes row)
+unfolding payloadOf
 local-table row = local-payload (kindOf (tagOf row)) (sizeOf row)

@@ -25,7 +25,7 @@ use Rattle.format.specs.Debug.{Line, Tables, debugTables}
 use Rattle.format.specs.Lines.{sorted, bestOf, lineFor}
 use Rattle.format.specs.Load.{readIn, hasTypes, typesFound, load}
 use Rattle.format.specs.Record.{TypeCounts, DebugCounts, Container}
-use Rattle.format.specs.Lookups.{readAt, tasksIn, typesBy, typesIn, constantsIn, codeIn, orNoDebug, debugBy, debugIn}
+use Rattle.format.specs.Lookups.{readAt, tasksIn, typesBy, typesIn, constantsIn, codeIn, orNoDebug, debugAt, debugBy, debugIn}
 use Rattle.format.specs.Lookups.{taskOf, programOf, fbTypeOf, fieldOf, arrayOf, byteSize, arraySizeOf, userFbOf, constantOf, numberOf, stringOf, charWidthOf, functionOf, functionBytesOf, enumerationOf, enumerationValueOf, runAnswers, debugAnswers}
 use Rattle.format.specs.Refusals as of
 use Rattle.format.specs.Refusals.{OfSections, OfReading, OfLookups, Only, OnlyRun, OnlyDebug, Refusals}
@@ -294,13 +294,13 @@ no-debug-only (refused r) = of.no-debug
 no-debug-only (found a) = tt
 
 debug-by-only : {T : Type 0} (keep : Keep T) (f : List ℕ) (p : Place) (d : Option DebugCounts) → Only OfLookups (debugBy keep f p d)
-debug-by-only keep f p none = of.no-debug
-debug-by-only keep f p (some c) = no-debug-only (readIn f p (debugTables keep))
+unfolding debugAt
+debug-by-only keep f p none = only-then OfLookups _ (need (leb (length f) limit) tooLong) (limit-only f) (λ u. of.no-debug)
+debug-by-only keep f p (some c) = only-then OfLookups _ (need (leb (length f) limit) tooLong) (limit-only f) (λ u. no-debug-only (readIn f p (debugTables keep)))
 
 debug-only : {T : Type 0} (keep : Place → Keep T) (f : List ℕ) (r : Container) → Only OfLookups (debugIn keep f r)
 unfolding debugIn
-debug-only keep f r =
-    only-then OfLookups _ (need (leb (length f) limit) tooLong) (limit-only f) (λ u. debug-by-only (keep (r .header .directory .debug)) f (r .header .directory .debug) (r .debug))
+debug-only keep f r = debug-by-only (keep (r .header .directory .debug)) f (r .header .directory .debug) (r .debug)
 
 -- then the answer in its tables
 

@@ -17,7 +17,7 @@ use Rattle.format.specs.Faults.{noDebug}
 use Rattle.format.specs.Parts.{Place, cut, Inside, byBytes}
 use Rattle.format.specs.Header.{Header}
 use Rattle.format.specs.Integrity.{debugHashFits}
-use Rattle.format.specs.Debug.{Row, unknown, payload, tagOf, sizeOf, kindOf, tableOf, tablesOf, skipped, Tables, noTables, put, rowsOf, debugTables}
+use Rattle.format.specs.Debug.{Row, unknown, payload, tagOf, sizeOf, kindOf, payloadOf, tablesOf, skipped, Tables, noTables, put, rowsOf, debugTables}
 use Rattle.format.specs.Load.{load, readable, debugOf, debugFound}
 use Rattle.format.specs.Record.{Container, debugCounts, recordOf}
 use Rattle.format.specs.Lookups.{debugAnswersOf}
@@ -80,8 +80,8 @@ rows-of-d s ps t e = let k = both (u16 s) e in rows-whole (k .item) ps (k .middl
 -- Payloads
 
 -- that of an unknown table is skipped
-skip : (row : Row) (b u : List ℕ) → kindOf (tagOf row) ≡ unknown → length b ≡ sizeOf row → tableOf byBytes row (b ++ u) ≡ got skipped u
-unfolding tableOf
+skip : (row : Row) (b u : List ℕ) → kindOf (tagOf row) ≡ unknown → length b ≡ sizeOf row → payloadOf byBytes row (b ++ u) ≡ got skipped u
+unfolding payloadOf
 skip row b u k n = rw (k, bytes-all (sizeOf row) b u n)
 
 -- and so unknown tables change nothing

@@ -5,7 +5,7 @@ use Prim.Native.Nat.{ℕ, _+_, _*_}
 use lib.ListN.{length}
 use Rattle.reading.specs.Reader.{got}
 use Rattle.format.specs.Parts.{byBytes}
-use Rattle.format.specs.Debug.{Row, tagOf, sizeOf, kindOf, unknown, rowsOf, Table, tableOf}
+use Rattle.format.specs.Debug.{Row, tagOf, sizeOf, kindOf, unknown, rowsOf, Payload, payloadOf}
 
 -- a row with the bytes of its payload
 pub record RowAndPayload : Type 0 where
@@ -27,7 +27,7 @@ payloadBytes (p ∷ ps) = p .payload ++ payloadBytes ps
 -- reading the payloads of the rows in turn takes the bytes of each, and leaves `rest`
 abbrev pub Takes : List RowAndPayload → List ℕ → List ℕ → Type 0
 Takes [] s rest = s ≡ rest
-Takes (p ∷ ps) s rest = (t : Table (List ℕ)) × (s′ : List ℕ) × (tableOf byBytes (p .row) s ≡ got t s′) × (s ≡ p .payload ++ s′) × Takes ps s′ rest
+Takes (p ∷ ps) s rest = (t : Payload (List ℕ)) × (s′ : List ℕ) × (payloadOf byBytes (p .row) s ≡ got t s′) × (s ≡ p .payload ++ s′) × Takes ps s′ rest
 
 -- how reading takes D apart: its rows, each with the bytes that reading it takes, and the bytes at D's end that reading D leaves
 pub record TakenApart (d : List ℕ) : Type 0 where

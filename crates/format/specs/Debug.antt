@@ -153,17 +153,17 @@ kindOf tag =
 -- Payloads
 
 -- what the payload of a row holds
-pub data Table (T : Type 0) : Type 0 where
-  ofLines : List Line → Table T
-  ofVariables : List (Variable T) → Table T
-  ofFunctions : List (FunctionName T) → Table T
-  ofStrings : List StringLayout → Table T
-  ofFiles : List (SourceFile T) → Table T
-  ofEnumerations : List (Enumeration T) → Table T
-  skipped : Table T
+pub data Payload (T : Type 0) : Type 0 where
+  ofLines : List Line → Payload T
+  ofVariables : List (Variable T) → Payload T
+  ofFunctions : List (FunctionName T) → Payload T
+  ofStrings : List StringLayout → Payload T
+  ofFiles : List (SourceFile T) → Payload T
+  ofEnumerations : List (Enumeration T) → Payload T
+  skipped : Payload T
 
 -- a known table is read by its own count, whatever its row's size is; any other is skipped by that size
-abbrev pub payload : {T : Type 0} → Keep T → Kind → ℕ → Reader (Table T)
+abbrev pub payload : {T : Type 0} → Keep T → Kind → ℕ → Reader (Payload T)
 payload keep lines size = do
   es ← counted line
   give (ofLines es)
@@ -186,8 +186,8 @@ payload keep unknown size = do
   b ← bytes size
   give skipped
 
-unfoldable pub tableOf : {T : Type 0} → Keep T → Row → Reader (Table T)
-tableOf keep row = payload keep (kindOf (tagOf row)) (sizeOf row)
+unfoldable pub payloadOf : {T : Type 0} → Keep T → Row → Reader (Payload T)
+payloadOf keep row = payload keep (kindOf (tagOf row)) (sizeOf row)
 
 -- The six tables in force: a later table of a tag replaces the earlier, even by an empty one
 
@@ -202,7 +202,7 @@ pub record Tables (T : Type 0) : Type 0 where
 abbrev pub noTables : {T : Type 0} → Tables T
 noTables = record { lines = []; variables = []; functions = []; strings = []; files = []; enumerations = [] }
 
-abbrev pub put : {T : Type 0} → Table T → Tables T → Tables T
+abbrev pub put : {T : Type 0} → Payload T → Tables T → Tables T
 put (ofLines es) t =
     record { lines = es; variables = t .variables; functions = t .functions; strings = t .strings; files = t .files; enumerations = t .enumerations }
 put (ofVariables es) t =
@@ -221,7 +221,7 @@ put skipped t = t
 abbrev pub tablesOf : {T : Type 0} → Keep T → List Row → Tables T → Reader (Tables T)
 tablesOf keep [] t = give t
 tablesOf keep (row ∷ rows) t = do
-  x ← tableOf keep row
+  x ← payloadOf keep row
   tablesOf keep rows (put x t)
 
 -- The section: count 2, the rows, then the payloads; bytes behind these are left unread

@@ -46,19 +46,24 @@ constantsIn keep f r = let p = r .header .directory .constants in readAt f p (co
 abbrev pub codeIn : List ℕ → Container → Got Code
 codeIn f r = readAt f (r .header .directory .code) (codeOf (r .header .runtime .functions))
 
--- for debug a place that is not inside and an unreadable section give 15, as its absence does
+-- for debug either refusal, of the place and of the section, is 15
 abbrev pub orNoDebug : {A : Type 0} → Got A → Got A
 orNoDebug (refused r) = refused noDebug
 orNoDebug (found a) = found a
 
+-- a debug section read alone at a place: 10, then 15
+unfoldable pub debugAt : {T : Type 0} → Keep T → List ℕ → Place → Got (Tables T)
+debugAt keep f p = do
+  need (leb (length f) limit) tooLong
+  orNoDebug (readIn f p (debugTables keep))
+
+-- by what the record says of debug: absence gives 15
 abbrev pub debugBy : {T : Type 0} → Keep T → List ℕ → Place → Option DebugCounts → Got (Tables T)
-debugBy keep f p none = refused noDebug
-debugBy keep f p (some counts) = orNoDebug (readIn f p (debugTables keep))
+debugBy keep f p none = need (leb (length f) limit) tooLong >> refused noDebug
+debugBy keep f p (some counts) = debugAt keep f p
 
 unfoldable pub debugIn : {T : Type 0} → (Place → Keep T) → List ℕ → Container → Got (Tables T)
-debugIn keep f r = do
-  need (leb (length f) limit) tooLong
-  debugBy (keep (r .header .directory .debug)) f (r .header .directory .debug) (r .debug)
+debugIn keep f r = let p = r .header .directory .debug in debugBy (keep p) f p (r .debug)
 
 -- Each answer within a section's tables: indexing
 

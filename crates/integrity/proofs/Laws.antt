@@ -5,22 +5,19 @@ use mathlib.Core.List.{List}
 use Prim.Native.Nat.{ℕ, _≤_}
 use lib.ListN.{length}
 use borrow.Author.Tests.{le-leb}
-use Rattle.reading.specs.Answer.{Got, refused, found, _>>=_, need}
+use Rattle.reading.specs.Answer.{found, need}
 use Rattle.format.specs.Faults.{contentHashMismatch}
 use Rattle.format.specs.Parts.{limit, hashLimit, same}
 use Rattle.format.specs.Header.{Header}
 use Rattle.format.specs.Integrity.{hashedString, noHash, contentFits, debugHashFits}
+use Rattle.format.proofs.Answers.{renamed}
 use Rattle.blake3.specs.Blake3.{blake3, hashAsked}
 use Rattle.integrity.specs.Hashes.{contentHash, contentChecked, debugFits}
 use Rattle.integrity.specs.Laws.{Laws}
 
-then-then : {A B C : Type 0} (m : A → B) (k : B → Got C) (x : Got A) → ((x >>= λ a. found (m a)) >>= k) ≡ (x >>= λ a. k (m a))
-then-then m k (refused e) = refl
-then-then m k (found a) = refl
-
 content : (f : List ℕ) (h : Header) → 256 ≤ length f → length f ≤ limit → contentChecked f h ≡ contentFits blake3 f h
 unfolding contentChecked contentHash contentFits
-content f h w l = rw (le-leb _ _ l, le-leb _ _ w) (ap (cond (noHash (h .contentHash)) (found tt)) (then-then blake3 (λ d. need (same d (h .contentHash)) contentHashMismatch) (hashedString f (h .directory))))
+content f h w l = rw (le-leb _ _ l, le-leb _ _ w) (ap (cond (noHash (h .contentHash)) (found tt)) (renamed blake3 (λ d. need (same d (h .contentHash)) contentHashMismatch) _ (λ s. refl) (hashedString f (h .directory))))
 
 debug : (d s : List ℕ) → length s ≤ hashLimit → debugFits d s ≡ debugHashFits blake3 d s
 unfolding debugFits debugHashFits hashAsked

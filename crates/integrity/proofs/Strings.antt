@@ -51,13 +51,9 @@ pub hashable-empty : (f : List ℕ) (p : Place) → p .size ≡ 0 → true ≡ i
 unfolding isHashable
 hashable-empty f p e = rw (eq-eqb (p .size) 0 e)
 
-pub hashable-early : (f : List ℕ) (p : Place) → (p .size ≡ 0 → ⊥) → p .offset < 256 → false ≡ isHashable f p
-unfolding isHashable isInside
-hashable-early f p n h = rw (ne-eqb (p .size) 0 n, lt-leb _ _ h)
-
-pub hashable-late : (f : List ℕ) (p : Place) → (p .size ≡ 0 → ⊥) → 256 ≤ p .offset → leb (p .offset + p .size) (length f) ≡ isHashable f p
-unfolding isHashable isInside
-hashable-late f p n h = rw (ne-eqb (p .size) 0 n, le-leb _ _ h)
+pub hashable-inside : (f : List ℕ) (p : Place) → (p .size ≡ 0 → ⊥) → isInside f p ≡ isHashable f p
+unfolding isHashable
+hashable-inside f p n = rw (ne-eqb (p .size) 0 n)
 
 -- four parts behind a first
 four : (m s t u v : List ℕ) (a b c d : Bool)

@@ -13,6 +13,7 @@ use base::section::FILE_LIMIT;
 use base::section::HEADER_SIZE;
 use base::section::Part;
 use base::section::Section;
+use base::section::is_inside;
 use blake3::HashAnswer;
 use blake3::finish;
 use blake3::hash;
@@ -25,15 +26,10 @@ use header::masked;
 fn is_hashable(file: &[u8], section: Section) -> bool
     ensures { λ r. ⌜ r ≡ isHashable (now (file .entry)) (placeIn section) ⌝ }
 {
-    let start = section.offset as usize;
-    let size = section.size as usize;
-    if size == 0 {
+    if section.size == 0 {
         return true;
     }
-    if start < HEADER_SIZE {
-        return false;
-    }
-    file.len() >= start + size
+    is_inside(file, section)
 }
 
 // Whether the four sections that the content hash covers can be hashed.

@@ -19,7 +19,7 @@ use Rattle.reading.proofs.Width.{Fixed, fixed-give, fixed-bind, fixed-number, f
 use Rattle.reading.proofs.Tables.{at-width, at-picked, index-out}
 use Rattle.format.specs.Faults.{noEntry}
 use Rattle.format.specs.Debug.{Line, line}
-use Rattle.line_map.specs.Lookups.{linesFit, inLines, lineAt}
+use Rattle.line_map.specs.Lookups.{linesFit, inLines, lineOfMap}
 
 -- an entry of the five numbers that stand there
 pub line-at : (s : List ℕ) (at f o i l c : ℕ) → at + 10 ≤ length s → f ≡ leAt 2 s at → o ≡ leAt 2 s (at + 2) → i ≡ leAt 2 s (at + 4) → l ≡ leAt 2 s (at + 6) → c ≡ leAt 2 s (at + 8)
@@ -82,12 +82,12 @@ module _ (s : List ℕ) (at n : ℕ) where
 
   -- the entry at an index
   module _ (h : 10 * n ≤ length s - at) (k : ℕ) where
-    pub line-out : n ≤ k → refused noEntry ≡ lineAt s at n k
+    pub line-out : n ≤ k → refused noEntry ≡ lineOfMap s at n k
     line-out l =
         let t = lines-read h in
         rw (t .1) (sym (index-out line k n (drop at s) (t .0) (drop (at + 10 * n) s) noEntry l (t .1)))
 
-    pub line-found : (e : Line) → k < n → line (drop (at + 10 * k) s) ≡ got e (drop (at + 10 * k + 10) s) → found e ≡ lineAt s at n k
+    pub line-found : (e : Line) → k < n → line (drop (at + 10 * k) s) ≡ got e (drop (at + 10 * k + 10) s) → found e ≡ lineOfMap s at n k
     line-found e l r =
         let t = lines-read h in
         let p = at-width line (fixed-width line-fixed) k n (drop at s) (t .0) (drop (at + 10 * n) s) l (t .1) in

@@ -31,5 +31,5 @@ abbrev pub sourceLineIn : List ℕ → ℕ → ℕ → ℕ → ℕ → Got Line
 sourceLineIn s at n function query = inLines s at n (lineFor function query)
 
 -- the entry at an index: 29 where the index is not below the count
-abbrev pub lineAt : List ℕ → ℕ → ℕ → ℕ → Got Line
-lineAt s at n k = inLines s at n (λ es. indexed noEntry es k)
+abbrev pub lineOfMap : List ℕ → ℕ → ℕ → ℕ → Got Line
+lineOfMap s at n k = inLines s at n (λ es. indexed noEntry es k)

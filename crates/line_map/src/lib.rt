@@ -9,7 +9,7 @@ ghost use Rattle.format.specs.Debug.{line};
 ghost use Rattle.format.specs.Lines.{inOrder, better};
 ghost use Rattle.line_map.specs.Answers.{lineIn, lineFrom, maybeLine, lineNextFrom};
 ghost use Rattle.line_map.specs.Choice.{isAbove};
-ghost use Rattle.line_map.specs.Lookups.{linesFit, sortedIn, choiceIn, sourceLineIn, lineAt};
+ghost use Rattle.line_map.specs.Lookups.{linesFit, sortedIn, choiceIn, sourceLineIn, lineOfMap};
 ghost use Rattle.line_map.specs.Laws.{Laws};
 use base::error::ContainerError;
 use base::id_types::FunctionId;
@@ -188,7 +188,7 @@ pub fn lookup_source_location(
 
 // The entry at an index of the map.
 pub fn line(s: &[u8], at: usize, n: usize, k: usize) -> LineAnswer
-    ensures { λ r. ⌜ lineFrom r ≡ lineAt (now (s .entry)) at n k ⌝ }
+    ensures { λ r. ⌜ lineFrom r ≡ lineOfMap (now (s .entry)) at n k ⌝ }
 {
     if lines_fit(s, at, n) {
         if k < n {

@@ -9,7 +9,7 @@ use Rattle.format.specs.Types.{typeTables, fbType, array, userFb}
 use Rattle.format.specs.Constants.{constants, constant, keptOf}
 use Rattle.format.specs.Code.{codeOf, function}
 use Rattle.format.specs.Debug as debug
-use Rattle.format.specs.Debug.{debugTables, rowsOf, tableOf, tagOf, sizeOf, kindOf}
+use Rattle.format.specs.Debug.{debugTables, rowsOf, payloadOf, tagOf, sizeOf, kindOf}
 use Rattle.format.specs.Integrity.{sectionIn, contentFits, debugHashFits}
 use Rattle.format.specs.Load.{load, readIn, hasTypes, typesFound, debugOf, debugFound}
 use Rattle.text.specs.Text.{digits, numbers, hexes}
@@ -17,7 +17,7 @@ use Rattle.listing.specs.Listing.{each, indexedFrom}
 use Rattle.listing.specs.Laws.{AllLaws}
 
 pub laws : AllLaws
-unfolding load headerOf runtimeOf directoryOf le bytes contentFits readIn sectionIn isInside taskTable task program typesFound hasTypes typeTables fbType array userFb constants constant keptOf codeOf function debugFound debugOf debugHashFits debugTables rowsOf tableOf tagOf sizeOf kindOf debug.line digits numbers hexes each indexedFrom
+unfolding load headerOf runtimeOf directoryOf le bytes contentFits readIn sectionIn isInside taskTable task program typesFound hasTypes typeTables fbType array userFb constants constant keptOf codeOf function debugFound debugOf debugHashFits debugTables rowsOf payloadOf tagOf sizeOf kindOf debug.line digits numbers hexes each indexedFrom
 laws hash =
     record {
       task-listed = refl;

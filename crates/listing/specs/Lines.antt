@@ -5,7 +5,7 @@ use mathlib.Core.Option.{Option, none, some}
 use Rattle.reading.specs.Fault.{Fault}
 use Rattle.format.specs.Header.{Header}
 use Rattle.format.specs.Record.{DebugCounts}
-use Rattle.base.specs.Error.{numberOf, valuesOf}
+use Rattle.base.specs.Error.{refusalNumber, refusalValues}
 use Rattle.text.specs.Text.{ascii, line, dashLine}
 
 -- version, profile, flags
@@ -26,4 +26,4 @@ valuesLine n [] = dashLine (ascii "refused") (n ∷ [])
 valuesLine n (v ∷ vs) = line (ascii "refused") (n ∷ v ∷ vs)
 
 abbrev pub refusedLine : Fault → List ℕ
-refusedLine f = valuesLine (numberOf f) (valuesOf f)
+refusedLine f = valuesLine (refusalNumber f) (refusalValues f)

@@ -8,7 +8,7 @@ ghost use Rattle.text.specs.Text.{Wrote};
 ghost use Rattle.header.specs.Answers.{headerIn};
 ghost use Rattle.entry_lines.specs.Lines.{lineRoom};
 ghost use Rattle.listing.specs.Lines.{containerLine, debugLine, endLine, refusedLine};
-ghost use Rattle.debug_tables.specs.Answers.{countsIn, maybeDebug};
+ghost use Rattle.debug_tables.specs.Answers.{debugCountsIn, maybeDebug};
 ghost use Rattle.listing.specs.Laws.{AllLaws};
 use base::error::ContainerError;
 use debug_tables::DebugCounts;
@@ -29,7 +29,7 @@ pub fn put_container(out: &mut [u8], at: usize, h: FileHeader) -> usize
 // The counts of the debug tables.
 fn put_counts(out: &mut [u8], at: usize, c: DebugCounts) -> usize
     requires { ⌜ at + lineRoom ≤ length (now out) ⌝ }
-    ensures { λ r. ⌜ Wrote (now (out .entry)) at (debugLine (some (countsIn c))) (now (out .exit)) r ⌝ }
+    ensures { λ r. ⌜ Wrote (now (out .entry)) at (debugLine (some (debugCountsIn c))) (now (out .exit)) r ⌝ }
 {
     let ns = [
         c.lines as u64,

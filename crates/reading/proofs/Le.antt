@@ -46,8 +46,11 @@ bytes-take (suc n) [] h i = omega arith
 bytes-take (suc n) (b ∷ l) h zero = h 0
 bytes-take (suc n) (b ∷ l) h (suc i) = bytes-take n l (λ j. h (suc j)) i
 
+pub bytes-drop : (s : List ℕ) (a : ℕ) → Bytes s → Bytes (drop a s)
+bytes-drop s a h j = rw getD-drop (h (a + j))
+
 pub bytes-part : (s : List ℕ) (a n : ℕ) → Bytes s → Bytes (take n (drop a s))
-bytes-part s a n h = bytes-take n (drop a s) (λ j. rw getD-drop (h (a + j)))
+bytes-part s a n h = bytes-take n (drop a s) (bytes-drop s a h)
 
 pub le-take-fill : (w : ℕ) (l : List ℕ) (n : ℕ) → le (take w (l ++ replicate n 0)) ≡ le (take w l)
 unfolding le
@@ -78,4 +81,4 @@ le-step s i p h =
     ap le (drop-cons s (i - 1) 0 (omega arith)) ∙ ap (λ (n : ℕ). getD s (i - 1) 0 + 256 * le (drop n s)) e
 
 pub le-drop-fits : (k : ℕ) (s : List ℕ) (i : ℕ) → Bytes s → length s ≤ i + k → le (drop i s) < 256 ^ k
-le-drop-fits k s i h g = le-fits k (drop i s) (λ j. rw getD-drop (h (i + j))) (simp length-drop (omega arith))
+le-drop-fits k s i h g = le-fits k (drop i s) (bytes-drop s i h) (simp length-drop (omega arith))

@@ -9,10 +9,11 @@ use lib.ListN.{length, drop, length-append, length-drop}
 use lib.Dec.{eqb}
 use lib.Seq.{drop-drop, drop-at, drop-length, drop-nil}
 use borrow.Author.Tests.{ne-eqb}
-use Rattle.reading.specs.Reader.{Read, fault, got, Reader, next, give, many}
+use Rattle.reading.specs.Reader.{Read, fault, got, Reader, next, _>>=_ as _>>=r_, give, left, many}
 use Rattle.reading.specs.Answer.{found, _>>=_, itemOf}
-use Rattle.reading.specs.Places.{nextOf, stepOf, onNext, walked}
+use Rattle.reading.specs.Places.{leftOf, nextOf, stepOf, onNext, walked}
 use Rattle.reading.specs.declared.Table.{Table}
+use Rattle.reading.proofs.Reading.{both}
 use Rattle.reading.proofs.Local.{Taken, Local}
 
 pub record LeftOf (whole s : List ℕ) : Type 0 where
@@ -63,6 +64,17 @@ pub record Stays {A : Type 0} (whole : List ℕ) (r : Reader A) : Type 0 where
 pub stays-local : {A : Type 0} (whole : List ℕ) {r : Reader A} → Local r → Stays whole r
 stays-local whole h = record { leaves = λ s a t w e. left-taken whole s a t w (h .taken s a t e) }
 
+pub stays-bind : {A B : Type 0} (whole : List ℕ) {r : Reader A} {go : A → Reader B} → Stays whole r → ((a : A) → Stays whole (go a)) → Stays whole (r >>=r go)
+stays-bind whole {r} hr hg =
+    record {
+      leaves = λ s b t w e.
+          let k = both (r s) e in
+          hg (k .item) .leaves (k .middle) b t (hr .leaves s (k .item) (k .middle) w (k .first)) (k .second);
+    }
+
+pub stays-left : (whole : List ℕ) → Stays whole left
+stays-left whole = record { leaves = λ s n t w e. let z : s ≡ t = cc in rw z at w }
+
 -- a caller's walk over a table, step by step, gives what reading the table gives
 pub walk-is-table : {A : Type 0} (whole : List ℕ) (r : Reader A) → Stays whole r → (n : ℕ) (t : Table) → t .count ≡ n → walked n r whole t ≡ itemOf (many n r (drop (t .at) whole))
 unfolding stepOf
@@ -81,3 +93,7 @@ walk-is-table {A} whole r h (suc n) t e =
     go rec (got a rest) d =
         let w = left-again whole rest (h .leaves (drop (t .at) whole) a rest (left-at whole (t .at)) d) in
         rw (rec (record { at = length whole - length rest; count = t .count - 1 }) (omega arith), w) (put a (many n r rest))
+
+-- the same of a table that reads
+pub walk-gives : {A : Type 0} (whole : List ℕ) (r : Reader A) → Stays whole r → (t : Table) (xs : List A) (rest : List ℕ) → leftOf r whole t ≡ got xs rest → walked (t .count) r whole t ≡ found xs
+walk-gives whole r h t xs rest e = walk-is-table whole r h (t .count) t refl ∙ ap itemOf e

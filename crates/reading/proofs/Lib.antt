@@ -4,5 +4,6 @@ pub mod Reading
 pub mod Width
 pub mod Passing
 pub mod Tables
+pub mod Sizes
 pub mod Local
 pub mod Left

@@ -10,13 +10,14 @@ use lib.ListN.{length, drop, length-drop}
 use lib.Seq.{drop-drop}
 use Rattle.reading.specs.Fault.{Fault}
 use Rattle.reading.specs.Numbers.{leAt}
-use Rattle.reading.specs.Reader.{Read, fault, got, Reader, next, give, many, counted}
+use Rattle.reading.specs.Reader.{Read, fault, got, Reader, next, give, number, many, counted}
 use Rattle.reading.specs.Answer.{refused, found, indexed}
 use Rattle.reading.specs.Places.{onTo, Goes, Holds, ends, entry}
 use Rattle.reading.specs.declared.Table.{Table}
-use Rattle.reading.proofs.Reading.{never, both}
+use Rattle.reading.proofs.Le.{Bytes}
+use Rattle.reading.proofs.Reading.{never, both, number-fits}
 use Rattle.reading.proofs.Passing.{counted-short, counted-as}
-use Rattle.reading.proofs.Width.{Width}
+use Rattle.reading.proofs.Width.{Width, width-many}
 
 -- the item at an index, read at `x`
 pub record At {A : Type 0} (r : Reader A) (xs : List A) (k : ℕ) (x : List ℕ) : Type 0 where
@@ -147,3 +148,32 @@ module _ {A : Type 0} (r : Reader A) where
           let l = many-length (leAt 2 s at) (drop (at + 2) s) xs x e in
           record { within = i; rest = x; reads = ap (λ (n : ℕ). many n r (drop (at + 2) s)) l ∙ e }
       go (no i) = never (sym (counted-short r s at (omega arith)) ∙ c)
+
+  -- a table that reads has as many entries as its count says
+  pub holds-count : (s : List ℕ) (t : Table) (xs : List A) → Holds r s t xs → t .count ≡ length xs
+  holds-count s t xs h = sym (many-length (t .count) (drop (t .at) s) xs (h .rest) (h .reads))
+
+  -- of a list of bytes: a count of two bytes is below 65,536
+  pub counted-few : (x : List ℕ) (xs : List A) (rest : List ℕ) → Bytes x → counted r x ≡ got xs rest → length xs < 65536
+  counted-few x xs rest b e =
+      let p = both (number 2 x) e in
+      let l = many-length (p .item) (p .middle) xs rest (p .second) in
+      omega (arith, number-fits 2 x (p .item) (p .middle) b (p .first))
+
+-- `n` items that were read at a place: they stand there as a table, and items of one width reach as far as they are many
+module _ {A : Type 0} (r : Reader A) (n at : ℕ) (s x rest : List ℕ) (xs : List A) (e : x ≡ drop at s) (h : at ≤ length s) (g : many n r x ≡ got xs rest) where
+  pub holds-at : Holds r s (record { at = at; count = length xs }) xs
+  holds-at =
+      record {
+        within = h;
+        rest = rest;
+        reads = ap (λ (i : ℕ). many i r (drop at s)) (many-length r n x xs rest g) ∙ ap (many n r) (sym e) ∙ g;
+      }
+
+  pub reaches : {w : ℕ} → Width w r → (rest ≡ drop (at + w * length xs) s) × (at + w * length xs ≤ length s)
+  reaches {w} hw =
+      let l = many-length r n x xs rest g in
+      let k = width-many n hw .takes x xs rest g in
+      let d = ap length e ∙ length-drop at s in
+      let z : w * length xs ≡ w * n = ap (λ (i : ℕ). w * i) l in
+      (k .0 ∙ ap (drop (w * n)) e ∙ drop-drop (w * n) at s ∙ ap (λ (i : ℕ). drop (at + i) s) (sym z), omega (arith, k .1))

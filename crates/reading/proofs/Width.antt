@@ -84,6 +84,13 @@ fixed-number n = rw (add-zero n) at (fixed-bind (fixed-bytes n) (λ b. fixed-giv
 pub width-number : (n : ℕ) → Width n (number n)
 width-number n = fixed-width (fixed-number n)
 
+-- n items of width k take k times n bytes
+pub width-many : {A : Type 0} {r : Reader A} {k : ℕ} (n : ℕ) → Width k r → Width (k * n) (many n r)
+width-many {A} {r} {k} zero h = subst (λ (m : ℕ). Width m (many zero r)) (sym (mul-zero k)) (width-give [])
+width-many {A} {r} {k} (suc n) h =
+    let e : k + (k * n + 0) ≡ k * suc n = omega (arith, mul-suc k n) in
+    subst (λ (m : ℕ). Width m (many (suc n) r)) e (width-bind h (λ a. width-bind (width-many n h) (λ xs. width-give (a ∷ xs))))
+
 -- at a place of a section
 pub needs-at : {A : Type 0} {r : Reader A} {k : ℕ} → Needs k r → (s : List ℕ) (at : ℕ) → length s - at < k → r (drop at s) ≡ fault shortInput
 needs-at h s at l = let d = length-drop at s in h (drop at s) (omega arith)

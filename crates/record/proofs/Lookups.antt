@@ -16,7 +16,7 @@ use Rattle.base.specs.Section.{placeIn}
 use Rattle.type_section.specs.declared.TypeCounts.{TypeCounts}
 use Rattle.debug_tables.specs.declared.DebugCounts.{DebugCounts}
 use Rattle.debug_tables.specs.declared.MaybeDebug.the-variants as maybe-debug
-use Rattle.debug_section.specs.Lookups.{debugAt}
+use Rattle.debug_section.specs.Lookups.{debugTablesAt}
 use Rattle.record.specs.Answers.{containerIn}
 use Rattle.record.specs.Absence.{absentFault}
 use Rattle.record.specs.declared.Container.{Container}
@@ -39,7 +39,7 @@ module _ {A : Type 0} (f : List ℕ) (c : Container) (go : Tables Place → Got 
   unfolding debugIn
   debug-absent h a = rw h (ap refused a ∙ refusing noDebug go (leb (length f) limit))
 
-  pub debug-present : {k : DebugCounts} {y : Got A} → c .debug ≡ maybe-debug.Some k → y ≡ (debugAt f (placeIn (c .header .sections .«debug_section»)) >>= go)
+  pub debug-present : {k : DebugCounts} {y : Got A} → c .debug ≡ maybe-debug.Some k → y ≡ (debugTablesAt f (placeIn (c .header .sections .«debug_section»)) >>= go)
       → y ≡ (debugIn byPlace f (containerIn c) >>= go)
-  unfolding debugIn debugAt
+  unfolding debugIn
   debug-present h a = rw h a

@@ -11,13 +11,13 @@ use Rattle.record.specs.declared.Container.{Container}
 
 abbrev pub maybeTypes : MaybeTypes → Option format.TypeCounts
 maybeTypes maybe-types.None = none
-maybeTypes (maybe-types.Some c) = some (types.countsIn c)
+maybeTypes (maybe-types.Some c) = some (types.typeCountsIn c)
 
 abbrev pub containerIn : Container → format.Container
 containerIn c =
     record {
       header = headerIn (c .header);
-      tasks = tasks.countsIn (c .tasks);
+      tasks = tasks.taskCountsIn (c .tasks);
       types = maybeTypes (c .types);
       constants = c .constants;
       debug = maybeDebug (c .debug);

@@ -57,7 +57,7 @@ pub struct Container {
     pub header: FileHeader,
     pub tasks: TaskCounts,
     pub types: MaybeTypes,
-    pub constants: usize,
+    pub constants: u16,
     pub debug: MaybeDebug,
 }
 

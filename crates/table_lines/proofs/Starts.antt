@@ -5,7 +5,7 @@ use mathlib.Core.List.{List, [], _∷_, map}
 use native.Mathlib.Omega.{arith}
 use lib.ListN.{length, length-drop}
 use Rattle.reading.specs.Fault.{Fault}
-use Rattle.reading.specs.Reader.{Read, fault, got, u16, many}
+use Rattle.reading.specs.Reader.{u16, many}
 use Rattle.reading.specs.Answer.{Got, refused, found, _>>=_, itemOf}
 use Rattle.reading.specs.Places.{Next, ends, faulty, entry, stepOf}
 use Rattle.reading.specs.declared.Table.{Table}
@@ -18,12 +18,12 @@ use Rattle.format.specs.Constants.{Constant, onConstant, constant, constants}
 use Rattle.format.specs.Code.{Code, function, codeOf}
 use Rattle.format.specs.Debug.{Line, line}
 use Rattle.format.specs.Record.{taskCounts}
-use Rattle.format.proofs.Answers.{never, same-found, steps}
+use Rattle.format.proofs.Answers.{same-found, steps, item-got}
 use Rattle.format.proofs.PlacesHold.{constants-at}
 use Rattle.task_table.specs.Lookups.{taskEntries, programEntries, tasksAt, programsAt, nextTaskAt, nextProgramAt}
 use Rattle.task_table.proofs.Tables as task-table
 use Rattle.constant_pool.specs.Lookups.{poolAt, startAt, nextConstantAt}
-use Rattle.constant_pool.specs.Answers.{entryIn, KeptEnds}
+use Rattle.constant_pool.specs.Answers.{constIn, KeptEnds}
 use Rattle.constant_pool.specs.declared.ConstEntry.{ConstEntry}
 use Rattle.constant_pool.proofs.Walks as constant-pool
 use Rattle.code_section.specs.Lookups.{directoryAt, nextFunctionAt}
@@ -31,8 +31,8 @@ use Rattle.code_section.proofs.Entries as code-section
 use Rattle.debug_section.specs.Lookups.{debugPart, startsAt}
 use Rattle.debug_section.proofs.Parts.{tables-refused, tables-stand}
 use Rattle.debug_tables.specs.declared.DebugTables.{DebugTables}
-use Rattle.debug_walks.specs.Steps.{noDebugStep, stepBy, stepAt}
-use Rattle.debug_walks.proofs.Walks.{step-count}
+use Rattle.debug_walks.specs.Steps.{noDebugStep, debugStepBy, debugStepAt}
+use Rattle.base.proofs.FileLookups.{step-count}
 use Rattle.debug_walks.proofs.Walks as debug-walks
 use Rattle.entry_lines.specs.Lines.{taskLine, programLine, constantLine, functionLine, lineLine}
 use Rattle.entry_lines.specs.Answers.{withBytes}
@@ -43,11 +43,6 @@ use Rattle.table_lines.specs.Tables.{textOf, tasksText, programsText, co
 use Rattle.table_lines.proofs.Walking.{Falls}
 use Rattle.table_lines.proofs.Texts.{each-indexed, driven-text, read-there, read-short, read-small, text-refused, start-text}
 use Rattle.table_lines.proofs.Counts.{many-takes, takes-constant}
-
--- what was read, with the bytes behind it
-item-got : {A : Type 0} (x : Read A) (a : A) → itemOf x ≡ found a → (rest : List ℕ) × (x ≡ got a rest)
-item-got (fault f) a e = never e
-item-got (got b rest) a e = (rest, ap (λ v. got v rest) (same-found e))
 
 -- the directory of a code section that reads
 functions-read : (n : ℕ) (s : List ℕ) (c : Code) → itemOf (codeOf n s) ≡ found c → itemOf (many n function s) ≡ found (c .functions)
@@ -81,7 +76,7 @@ placedLine f i c = constantLine i (onConstant (cut f) c)
 
 module _ (f : List ℕ) where
   -- a constant that the code answers
-  pub constant-is : (i : ℕ) (c : ConstEntry) → KeptEnds (length f) (c .kept) → constantLine i (withBytes f c) ≡ placedLine f i (entryIn c)
+  pub constant-is : (i : ℕ) (c : ConstEntry) → KeptEnds (length f) (c .kept) → constantLine i (withBytes f c) ≡ placedLine f i (constIn c)
   constant-is i c h = ap (constantLine i) (entry-lines.laws .constants f c h)
 
   placed-lines : (i : ℕ) (cs : List (Constant Place)) → indexedFrom i constantLine (map (onConstant (cut f)) cs) ≡ indexedFrom i (placedLine f) cs
@@ -134,20 +129,20 @@ module _ (f : List ℕ) where
 -- Lines of the debug section
 
 module _ (f : List ℕ) (p : Place) where
-  pub lines-start : (u : DebugTables) → found u ≡ startsAt f p → linesText f p ≡ walkText 0 (stepAt f p line) (λ i. lineLine) (u .lines .count) (u .lines)
+  pub lines-start : (u : DebugTables) → found u ≡ startsAt f p → linesText f p ≡ walkText 0 (debugStepAt f p line) (λ i. lineLine) (u .lines .count) (u .lines)
   lines-start u e =
       let k = tables-stand f p e in
       let w = debug-walks.laws .walks f p (k .tables) (k .reads) in
       let z : w .starts ≡ u = same-found (sym (w .started) ∙ sym e) in
       ap (λ x. textOf x (λ t. each lineLine (t .lines))) (k .reads)
       ∙ each-indexed 0 lineLine (k .tables .lines)
-      ∙ sym (driven-text (stepAt f p line) (λ i. lineLine) 0 (w .starts .lines .count) (w .starts .lines) (k .tables .lines) (w .lines (w .starts .lines .count) (omega arith)))
-      ∙ ap (λ (v : DebugTables). walkText 0 (stepAt f p line) (λ i. lineLine) (v .lines .count) (v .lines)) z
+      ∙ sym (driven-text (debugStepAt f p line) (λ i. lineLine) 0 (w .starts .lines .count) (w .starts .lines) (k .tables .lines) (w .lines (w .starts .lines .count) (omega arith)))
+      ∙ ap (λ (v : DebugTables). walkText 0 (debugStepAt f p line) (λ i. lineLine) (v .lines .count) (v .lines)) z
 
   pub lines-none : {g : Fault} → refused g ≡ startsAt f p → linesText f p ≡ []
   lines-none e = ap (λ x. textOf x (λ t. each lineLine (t .lines))) (sym (tables-refused f p e))
 
-  pub lines-fall : Falls (stepAt f p line)
+  pub lines-fall : Falls (debugStepAt f p line)
   lines-fall t u a e = go (debugPart f p) e
     where
       through : (x : Next Line) → noDebugStep x ≡ entry a u → x ≡ entry a u
@@ -155,6 +150,6 @@ module _ (f : List ℕ) (p : Place) where
       through (faulty g) e = absurd (let z : _≡_ {A = ℕ} 0 1 = cc in omega arith)
       through (entry b v) e = e
 
-      go : (x : Got Place) → stepBy f x line t ≡ entry a u → u .count ≡ t .count - 1
+      go : (x : Got Place) → debugStepBy f x line t ≡ entry a u → u .count ≡ t .count - 1
       go (refused g) e = absurd (let z : _≡_ {A = ℕ} 0 1 = cc in omega arith)
       go (found q) e = step-count line (cut f q) t (through (stepOf line (cut f q) t) e)

@@ -21,7 +21,7 @@ use Rattle.format.proofs.Answers.{never, same-found, steps}
 use Rattle.base.specs.Section.{sectionPart, stepBy, stepIn}
 use Rattle.base.proofs.Sections.{section-refused, section-found}
 use Rattle.listing.specs.Listing.{each, indexedFrom}
-use Rattle.debug_walks.proofs.Walks.{step-count}
+use Rattle.base.proofs.FileLookups.{step-count}
 use Rattle.table_lines.specs.Walks.{onStep, walkText}
 use Rattle.table_lines.specs.Tables.{textOf}
 use Rattle.table_lines.proofs.Walking.{Falls}

@@ -8,7 +8,7 @@ use Rattle.format.specs.Tasks.{taskTable}
 use Rattle.format.specs.Constants.{constants}
 use Rattle.format.specs.Code.{codeOf}
 use Rattle.format.specs.Lookups.{readAt}
-use Rattle.debug_section.specs.Lookups.{debugAt}
+use Rattle.debug_section.specs.Lookups.{debugTablesAt}
 use Rattle.entry_lines.specs.Lines.{taskLine, programLine, constantLine, functionLine, lineLine}
 use Rattle.listing.specs.Listing.{each, indexedFrom}
 
@@ -31,4 +31,4 @@ functionsText f p n = textOf (readAt f p (codeOf n)) λ c. each functionLine (c 
 
 -- of the debug tables only lines are listed
 abbrev pub linesText : List ℕ → Place → List ℕ
-linesText f p = textOf (debugAt f p) λ t. each lineLine (t .lines)
+linesText f p = textOf (debugTablesAt f p) λ t. each lineLine (t .lines)

@@ -32,7 +32,7 @@ use task_table::next_task;
 use task_table::programs;
 use task_table::tasks;
 
-// Room for any line without kept bytes.
+// Room for any line without kept bytes: the longest, a task's, has at most 194 bytes (`lineRoom` of `entry_lines/specs/Lines.antt`).
 pub const LINE_ROOM: usize = 200;
 
 pub enum Put {

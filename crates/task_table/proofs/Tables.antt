@@ -1,35 +1,27 @@
 -- The section from its header and its two tables, and each answer from what the section's reader answers.
 use mathlib.Core.Path.{_≡_, refl, sym, ap, subst, _∙_}
-use mathlib.Core.List.{List, [], _∷_}
-use Prim.Native.Nat.{ℕ, zero, suc, _+_, _*_, _-_, _≤_, _<_}
-use native.Mathlib.Nat.{mul-suc, mul-zero}
+use mathlib.Core.List.{List}
+use Prim.Native.Nat.{ℕ, _+_, _*_, _-_, _≤_, _<_}
 use native.Mathlib.Omega.{arith}
 use lib.ListN.{length, drop, length-drop}
 use lib.Seq.{drop-drop}
 use Rattle.reading.specs.Fault.{Fault, shortInput}
 use Rattle.reading.specs.Numbers.{leAt}
-use Rattle.reading.specs.Reader.{Read, fault, got, Reader, next, u16, give, many}
+use Rattle.reading.specs.Reader.{Read, fault, got, next, u16, give, many}
 use Rattle.reading.specs.Answer.{Got, refused, found, _>>=_, itemOf}
-use Rattle.reading.specs.Places.{onTo, Goes, Holds, walked}
+use Rattle.reading.specs.Places.{onTo, Goes, Holds}
 use Rattle.reading.specs.declared.Table.{Table}
 use Rattle.reading.proofs.Reading.{both, number-at}
-use Rattle.reading.proofs.Width.{Width, Needs, width-give, width-bind, width-number, needs-none, needs-bind, fixed-number, fixed-many, fixed-at, needs-at, fixed-width}
-use Rattle.reading.proofs.Tables.{many-length, holds-width, holds-fits, holds-out, at-picked, at-reads}
-use Rattle.reading.proofs.Left.{stays-local, walk-is-table}
+use Rattle.reading.proofs.Width.{Needs, width-number, needs-none, needs-bind, fixed-number, fixed-many, fixed-at, needs-at, fixed-width}
+use Rattle.reading.proofs.Tables.{many-length, holds-at, reaches, holds-width, holds-fits, holds-out, at-picked, at-reads}
+use Rattle.reading.proofs.Left.{stays-local, walk-gives}
 use Rattle.format.specs.Faults.{noEntry}
 use Rattle.format.specs.Tasks.{Task, task, Program, program, TaskTable, taskTable}
 use Rattle.format.specs.Record.{TaskCounts, taskCounts}
-use Rattle.format.proofs.Answers.{never, same-found}
-use Rattle.task_table.specs.Lookups.{countsOf, taskEntries, programEntries, taskInside, programInside}
+use Rattle.format.proofs.Answers.{never, same-found, refused-then}
+use Rattle.task_table.specs.Lookups.{taskCountsInside, taskEntries, programEntries, taskInside, programInside}
 use Rattle.task_table.specs.Laws.{Laws}
 use Rattle.task_table.proofs.Entries.{task-width, task-local, program-fixed, program-local}
-
--- n items of width k take k times n bytes
-width-many : {A : Type 0} {r : Reader A} {k : ℕ} (n : ℕ) → Width k r → Width (k * n) (many n r)
-width-many {A} {r} {k} zero h = subst (λ (m : ℕ). Width m (many zero r)) (sym (mul-zero k)) (width-give [])
-width-many {A} {r} {k} (suc n) h =
-    let e : k + (k * n + 0) ≡ k * suc n = omega (arith, mul-suc k n) in
-    subst (λ (m : ℕ). Width m (many (suc n) r)) e (width-bind h (λ a. width-bind (width-many n h) (λ xs. width-give (a ∷ xs))))
 
 -- Reading the section
 
@@ -44,15 +36,15 @@ module _ (s : List ℕ) (n m g : ℕ) (h : 6 ≤ length s) (i : n ≡ leAt 2 s 0
   table-head = rw (number-at 2 s 0 2 refl (omega arith), number-at 2 s 2 4 refl (omega arith), number-at 2 s 4 6 refl h, i, j, k)
 
   -- a task that is refused
-  pub table-stop : (f : Fault) → many n task (drop 6 s) ≡ fault f → refused f ≡ countsOf s
+  pub table-stop : (f : Fault) → many n task (drop 6 s) ≡ fault f → refused f ≡ taskCountsInside s
   table-stop f e = rw (table-head, e)
 
   -- the tasks reach to p
   module _ (p : ℕ) (w : Goes (many n task) s 6 (onTo p)) where
-    pub table-short : length s - p < 16 * m → refused shortInput ≡ countsOf s
+    pub table-short : length s - p < 16 * m → refused shortInput ≡ taskCountsInside s
     table-short l = rw (table-head, w .1 .1, needs-at (fixed-many m program-fixed .short) s p l)
 
-    pub table-whole : 16 * m ≤ length s - p → found (record { sharedGlobals = g; tasks = n; programs = m }) ≡ countsOf s
+    pub table-whole : 16 * m ≤ length s - p → found (record { sharedGlobals = g; tasks = n; programs = m }) ≡ taskCountsInside s
     table-whole l =
         let room = w .0 in
         let q = fixed-at (fixed-many m program-fixed) s p (omega arith) in
@@ -75,24 +67,6 @@ six {n} {m} {g} s x y z e f h =
     let four : y ≡ drop 4 s = b .0 ∙ ap (drop 2) (a .0) ∙ drop-drop 2 2 s in
     (c .0 ∙ ap (drop 2) four ∙ drop-drop 2 4 s, omega (arith, c .1, ap length four ∙ length-drop 4 s))
 
--- a table that was read at a place
-module _ {A : Type 0} (r : Reader A) (n at : ℕ) (s x rest : List ℕ) (xs : List A) (e : x ≡ drop at s) (h : at ≤ length s) (g : many n r x ≡ got xs rest) where
-  holds-at : Holds r s (record { at = at; count = length xs }) xs
-  holds-at =
-      record {
-        within = h;
-        rest = rest;
-        reads = ap (λ (i : ℕ). many i r (drop at s)) (many-length r n x xs rest g) ∙ ap (many n r) (sym e) ∙ g;
-      }
-
-  behind : {w : ℕ} → Width w r → (rest ≡ drop (at + w * length xs) s) × (at + w * length xs ≤ length s)
-  behind {w} hw =
-      let l = many-length r n x xs rest g in
-      let k = width-many n hw .takes x xs rest g in
-      let d = ap length e ∙ length-drop at s in
-      let z : w * length xs ≡ w * n = ap (λ (i : ℕ). w * i) l in
-      (k .0 ∙ ap (drop (w * n)) e ∙ drop-drop (w * n) at s ∙ ap (λ (i : ℕ). drop (at + i) s) (sym z), omega (arith, k .1))
-
 pub readable : (s : List ℕ) (t : TaskTable) (rest : List ℕ) → taskTable s ≡ got t rest → Readable s t
 unfolding taskTable
 readable s t rest e =
@@ -102,7 +76,7 @@ readable s t rest e =
     let d = both (many (a .item) task (c .middle)) (c .second) in
     let p = both (many (b .item) program (d .middle)) (d .second) in
     let h = six s (a .middle) (b .middle) (c .middle) (a .first) (b .first) (c .first) in
-    let k = behind task (a .item) 6 s (c .middle) (d .middle) (d .item) (h .0) (h .1) (d .first) task-width in
+    let k = reaches task (a .item) 6 s (c .middle) (d .middle) (d .item) (h .0) (h .1) (d .first) task-width in
     let all : record { sharedGlobals = c .item; tasks = d .item; programs = p .item } ≡ t = cc in
     subst (λ (v : TaskTable). Readable s v) all
     (record {
@@ -113,14 +87,10 @@ readable s t rest e =
 -- Each answer from the counts
 
 -- a section that does not read is refused to every lookup
-pub counts-refused : {B : Type 0} (s : List ℕ) (f : Fault) (go : TaskTable → Got B) → refused f ≡ countsOf s → refused f ≡ (itemOf (taskTable s) >>= go)
-counts-refused {B} s f go e = here (itemOf (taskTable s)) e
-  where
-    here : (x : Got TaskTable) → refused f ≡ (x >>= λ t. found (taskCounts t)) → refused f ≡ (x >>= go)
-    here (refused d) e = cc
-    here (found t) e = never e
+pub counts-refused : {B : Type 0} (s : List ℕ) (f : Fault) (go : TaskTable → Got B) → refused f ≡ taskCountsInside s → refused f ≡ (itemOf (taskTable s) >>= go)
+counts-refused s f go e = refused-then (itemOf (taskTable s)) taskCounts go f e
 
-module _ (s : List ℕ) (c : TaskCounts) (e : found c ≡ countsOf s) where
+module _ (s : List ℕ) (c : TaskCounts) (e : found c ≡ taskCountsInside s) where
   record Counted : Type 0 where
     table : TaskTable
     rest : List ℕ
@@ -178,14 +148,9 @@ module _ (s : List ℕ) (c : TaskCounts) (e : found c ≡ countsOf s) where
       program-found a t d =
           rw (counted .reads) (sym (at-picked program (holds-width program s (programEntries c) (counted .table .programs) (counted .programs) (fixed-width program-fixed) k l) a t d noEntry))
 
--- a walk gives what the table holds
-walk-holds : {A : Type 0} (r : Reader A) (s : List ℕ) (t : Table) (xs : List A) → ((n : ℕ) → t .count ≡ n → walked n r s t ≡ itemOf (many n r (drop (t .at) s))) → Holds r s t xs
-    → walked (t .count) r s t ≡ found xs
-walk-holds r s t xs w h = w (t .count) refl ∙ ap itemOf (h .reads)
-
 pub laws : Laws
 laws =
     record {
-      tasks = λ s t rest e. walk-holds task s (taskEntries (taskCounts t)) (t .tasks) (λ n. walk-is-table s task (stays-local s task-local) n (taskEntries (taskCounts t))) (readable s t rest e .tasks);
-      programs = λ s t rest e. walk-holds program s (programEntries (taskCounts t)) (t .programs) (λ n. walk-is-table s program (stays-local s program-local) n (programEntries (taskCounts t))) (readable s t rest e .programs);
+      tasks = λ s t rest e. walk-gives s task (stays-local s task-local) (taskEntries (taskCounts t)) (t .tasks) _ (readable s t rest e .tasks .reads);
+      programs = λ s t rest e. walk-gives s program (stays-local s program-local) (programEntries (taskCounts t)) (t .programs) _ (readable s t rest e .programs .reads);
     }

@@ -78,11 +78,11 @@ programNextFrom (programNext.Entry p u) = entry (programIn p) u
 
 -- The section's counts
 
-abbrev pub countsIn : TaskCounts → kept.TaskCounts
-countsIn c = record { sharedGlobals = c .«shared_globals_size»; tasks = c .tasks; programs = c .programs }
+abbrev pub taskCountsIn : TaskCounts → kept.TaskCounts
+taskCountsIn c = record { sharedGlobals = c .«shared_globals_size»; tasks = c .tasks; programs = c .programs }
 
-abbrev pub countsFrom : TaskTableAnswer → Got kept.TaskCounts
-countsFrom (tableAnswer.Refused e) = refused (faultOf e)
-countsFrom (tableAnswer.Counts c) = found (countsIn c)
+abbrev pub taskCountsFrom : TaskTableAnswer → Got kept.TaskCounts
+taskCountsFrom (tableAnswer.Refused e) = refused (faultOf e)
+taskCountsFrom (tableAnswer.Counts c) = found (taskCountsIn c)
 
 -- Items passed over

@@ -11,8 +11,8 @@ use Rattle.format.specs.Lookups.{readAt, taskOf, programOf}
 use Rattle.base.specs.Section.{stepIn}
 
 -- what the section's reader yields
-abbrev pub countsOf : List ℕ → Got TaskCounts
-countsOf s = itemOf (taskTable s) >>= λ t. found (taskCounts t)
+abbrev pub taskCountsInside : List ℕ → Got TaskCounts
+taskCountsInside s = itemOf (taskTable s) >>= λ t. found (taskCounts t)
 
 -- the tasks start behind the header, and the programs behind the tasks
 abbrev pub taskEntries : TaskCounts → Table

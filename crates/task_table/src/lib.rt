@@ -8,8 +8,8 @@ ghost use Rattle.reading.specs.Places.{Reads, Goes, stepOf};
 ghost use Rattle.format.specs.Tasks.{task, program};
 ghost use Rattle.base.specs.Small.{taskTypeNumber};
 ghost use Rattle.base.specs.Section.{placeIn, startFrom, wayFrom};
-ghost use Rattle.task_table.specs.Answers.{taskIn, taskStep, taskFrom, taskNextFrom, programIn, programFrom, programNextFrom, countsIn, countsFrom};
-ghost use Rattle.task_table.specs.Lookups.{countsOf, taskEntries, programEntries, tasksOf, programsOf, taskInside, programInside, taskAt, programAt, tasksAt, programsAt, nextTaskAt, nextProgramAt};
+ghost use Rattle.task_table.specs.Answers.{taskIn, taskStep, taskFrom, taskNextFrom, programIn, programFrom, programNextFrom, taskCountsIn, taskCountsFrom};
+ghost use Rattle.task_table.specs.Lookups.{taskCountsInside, taskEntries, programEntries, tasksOf, programsOf, taskInside, programInside, taskAt, programAt, tasksAt, programsAt, nextTaskAt, nextProgramAt};
 ghost use Rattle.task_table.specs.Laws.{Laws};
 use base::error::ContainerError;
 use base::id_types::FunctionId;
@@ -180,7 +180,7 @@ fn program_at(s: &[u8], at: usize) -> ProgramInstanceEntry
 
 // The section's reader. Each task is looked at; no program is refused, so that their bytes need only be there.
 pub fn read_from(s: &[u8]) -> TaskTableAnswer
-    ensures { λ r. ⌜ countsFrom r ≡ countsOf (now (s .entry)) ⌝ }
+    ensures { λ r. ⌜ taskCountsFrom r ≡ taskCountsInside (now (s .entry)) ⌝ }
 {
     if s.len() < HEADER_SIZE {
         return TaskTableAnswer::Refused(ContainerError::ShortInput);
@@ -205,7 +205,7 @@ pub fn read_from(s: &[u8]) -> TaskTableAnswer
 
 // The table of the tasks.
 fn task_entries(counts: TaskCounts) -> Table
-    ensures { λ r. ⌜ r ≡ taskEntries (countsIn counts) ⌝ }
+    ensures { λ r. ⌜ r ≡ taskEntries (taskCountsIn counts) ⌝ }
 {
     Table {
         at: HEADER_SIZE,
@@ -215,7 +215,7 @@ fn task_entries(counts: TaskCounts) -> Table
 
 // The table of the programs, behind the tasks.
 fn program_entries(counts: TaskCounts) -> Table
-    ensures { λ r. ⌜ r ≡ programEntries (countsIn counts) ⌝ }
+    ensures { λ r. ⌜ r ≡ programEntries (taskCountsIn counts) ⌝ }
 {
     Table {
         at: HEADER_SIZE + TASK_ENTRY_SIZE * (counts.tasks as usize),

@@ -1,8 +1,7 @@
 -- How many bytes tables take, and where their entries stand behind a count.
-use mathlib.Core.Path.{_≡_, refl, sym, ap, subst, _∙_}
+use mathlib.Core.Path.{_≡_, refl, sym, ap, _∙_}
 use mathlib.Core.List.{List, [], _∷_}
-use Prim.Native.Nat.{ℕ, zero, suc, _+_, _*_, _≤_, _<_}
-use native.Mathlib.Nat.{mul-suc, mul-zero}
+use Prim.Native.Nat.{ℕ, zero, suc, _+_, _*_, _≤_}
 use native.Mathlib.Omega.{arith}
 use lib.ListN.{length, drop, length-drop}
 use lib.Seq.{drop-drop}
@@ -10,52 +9,14 @@ use Rattle.reading.specs.Numbers.{leAt}
 use Rattle.reading.specs.Reader.{got, Reader, number, many, counted}
 use Rattle.reading.specs.Places.{onTo, Goes}
 use Rattle.reading.proofs.Reading.{both}
-use Rattle.reading.proofs.Width.{Width, width-give, width-bind, width-number}
+use Rattle.reading.proofs.Width.{width-number}
 use Rattle.reading.proofs.Passing.{counted-as}
 use Rattle.reading.proofs.Tables.{many-length}
+use Rattle.reading.proofs.Sizes.{Takes, takes-width, takes-counted}
 use Rattle.format.specs.Types.{field, FbType, fbType, array}
 use Rattle.type_entries.specs.Starts.{fbTypeSize, fbTypesSize}
 use Rattle.type_entries.specs.Answers.{TableIs}
 use Rattle.type_entries.proofs.Entries.{field-width, array-width}
-
--- two places in a section with the same behind them are one
-pub same-place : (s : List ℕ) (m n : ℕ) → m ≤ length s → n ≤ length s → drop m s ≡ drop n s → m ≡ n
-same-place s m n h k e = omega (arith, ap length e, length-drop m s, length-drop n s)
-
--- a table of one width
-width-cast : {A : Type 0} {r : Reader A} {j k : ℕ} → j ≡ k → Width j r → Width k r
-width-cast {A} {r} e h = subst (λ n. Width n r) e h
-
-width-many : {A : Type 0} {r : Reader A} {k : ℕ} (n : ℕ) → Width k r → Width (k * n) (many n r)
-width-many {k} zero h = width-cast (sym (mul-zero k)) (width-give [])
-width-many {k} (suc n) h =
-    width-cast {j = k + (k * n + 0)} (omega (arith, mul-suc k n)) (width-bind h (λ a. width-bind (width-many n h) (λ xs. width-give (a ∷ xs))))
-
--- A reader of items whose size is known from the item
-
-pub record Takes {A : Type 0} (size : A → ℕ) (r : Reader A) : Type 0 where
-  pub takes : (s : List ℕ) (a : A) (t : List ℕ) → r s ≡ got a t → (t ≡ drop (size a) s) × (size a ≤ length s)
-
-takes-width : {A : Type 0} {r : Reader A} {k : ℕ} (n : ℕ) → Width k r → Takes (λ xs. k * length xs) (many n r)
-takes-width {A} {r} {k} n h =
-    record { takes = λ s xs t e. subst (λ m. (t ≡ drop (k * m) s) × (k * m ≤ length s)) (sym (many-length r n s xs t e)) (width-many n h .takes s xs t e) }
-
--- the entries behind a count
-pub counted-left : {A : Type 0} (r : Reader A) (s : List ℕ) (xs : List A) (t : List ℕ) → counted r s ≡ got xs t → (many (length xs) r (drop 2 s) ≡ got xs t) × (2 ≤ length s)
-counted-left r s xs t e =
-    let p = both (number 2 s) e in
-    let w = width-number 2 .takes s (p .item) (p .middle) (p .first) in
-    (rw (many-length r (p .item) (p .middle) xs t (p .second), ← w .0) (p .second), w .1)
-
-takes-counted : {A : Type 0} {r : Reader A} {size : List A → ℕ} → ((n : ℕ) → Takes size (many n r)) → Takes (λ xs. 2 + size xs) (counted r)
-takes-counted {A} {r} {size} h =
-    record {
-      takes = λ s xs t e.
-          let k = counted-left r s xs t e in
-          let w = h (length xs) .takes (drop 2 s) xs t (k .0) in
-          let d = length-drop 2 s in
-          (w .0 ∙ drop-drop (size xs) 2 s, omega (arith, w .1, k .1));
-    }
 
 pub arrays-take : Takes (λ xs. 2 + 12 * length xs) (counted array)
 arrays-take = takes-counted (λ n. takes-width n array-width)
@@ -111,14 +72,13 @@ pub fb-types-take : Takes (λ bs. 2 + fbTypesSize bs) (counted fbType)
 fb-types-take = takes-counted fb-types-many
 
 -- a table that was walked over behind its count
-pub table-is : {A : Type 0} (r : Reader A) (s : List ℕ) (at n m : ℕ) → at + 2 ≤ length s → n ≡ leAt 2 s at → n < 65536 → Goes (many n r) s (at + 2) (onTo m)
+pub table-is : {A : Type 0} (r : Reader A) (s : List ℕ) (at n m : ℕ) → at + 2 ≤ length s → n ≡ leAt 2 s at → Goes (many n r) s (at + 2) (onTo m)
     → TableIs (counted r) s at (record { at = at + 2; count = n }) m
-table-is r s at n m h e l g =
+table-is r s at n m h e g =
     record {
       within = g .0;
       entries = g .1 .0;
       reads = counted-as r s at n h e ∙ g .1 .1;
       place = refl;
       count = sym (many-length r n (drop (at + 2) s) (g .1 .0) (drop m s) (g .1 .1));
-      small = l;
     }

@@ -1,45 +1,48 @@
 -- The section from its three tables; where they stand in a section that reads.
 use mathlib.Core.Path.{_≡_, refl, sym, ap, subst, _∙_}
 use mathlib.Core.List.{List, []}
-use Prim.Native.Nat.{ℕ, _+_, _*_, _≤_}
+use Prim.Native.Nat.{ℕ, _+_, _*_, _≤_, _<_}
 use native.Mathlib.Decide.{decLe}
 use native.Mathlib.Omega.{arith}
 use lib.ListN.{length, drop, length-drop}
 use lib.Seq.{drop-drop}
 use borrow.Author.Tests.{le-ltb, lt-ltb}
 use Rattle.reading.specs.Fault.{Fault}
-use Rattle.reading.specs.Reader.{Read, fault, got, Reader, many, counted, countedOrNone}
+use Rattle.reading.specs.Reader.{fault, got, Reader, counted, countedOrNone}
 use Rattle.reading.specs.Answer.{refused, found, itemOf}
 use Rattle.reading.specs.Places.{leftOf, Holds}
 use Rattle.reading.specs.declared.Table.{Table}
 use Rattle.reading.proofs.Reading.{both}
+use Rattle.reading.proofs.Le.{Bytes, bytes-drop}
+use Rattle.reading.proofs.Parts.{same-place}
+use Rattle.reading.proofs.Tables.{counted-stands, counted-few}
 use Rattle.format.specs.Types.{FbType, fbType, Array, array, UserFb, userFb, TypeTables, typeTables}
-use Rattle.format.proofs.Answers.{never, same-found, steps}
-use Rattle.type_entries.specs.Starts.{fbTypesSize, startsOf, tablesOf}
+use Rattle.format.proofs.Answers.{same-found, steps, item-got}
+use Rattle.type_entries.specs.Starts.{fbTypesSize, typeStartsOf, typeStartsIn}
 use Rattle.type_entries.specs.Answers.{TableIs}
 use Rattle.type_entries.specs.declared.Tables.{Tables}
-use Rattle.type_entries.proofs.Sizes.{same-place, counted-left, fb-types-take, arrays-take}
+use Rattle.type_entries.proofs.Sizes.{fb-types-take, arrays-take}
 
 table-same : (t : Table) (at count : ℕ) → t .at ≡ at → t .count ≡ count → t ≡ record { at = at; count = count }
 table-same t at count p q = ap (λ (i : ℕ). record { at = i; count = t .count }) p ∙ ap (λ (n : ℕ). record { at = at; count = n }) q
 
 -- the first fault of the three tables, or all three
 module _ (s : List ℕ) where
-  pub fb-types-stop : (f : Fault) → counted fbType s ≡ fault f → refused f ≡ tablesOf s
+  pub fb-types-stop : (f : Fault) → counted fbType s ≡ fault f → refused f ≡ typeStartsIn s
   unfolding typeTables
   fb-types-stop f e = rw e
 
   module _ (a : ℕ) (fbs : Table) (p : TableIs (counted fbType) s 0 fbs a) where
-    pub arrays-stop : (f : Fault) → counted array (drop a s) ≡ fault f → refused f ≡ tablesOf s
+    pub arrays-stop : (f : Fault) → counted array (drop a s) ≡ fault f → refused f ≡ typeStartsIn s
     unfolding typeTables
     arrays-stop f e = rw (p .reads, e)
 
     module _ (u : ℕ) (rs : Table) (q : TableIs (counted array) s a rs u) where
-      pub user-fbs-stop : (f : Fault) → countedOrNone userFb (drop u s) ≡ fault f → refused f ≡ tablesOf s
+      pub user-fbs-stop : (f : Fault) → countedOrNone userFb (drop u s) ≡ fault f → refused f ≡ typeStartsIn s
       unfolding typeTables
       user-fbs-stop f e = rw (p .reads, q .reads, e)
 
-      pub tables-whole : (m : ℕ) (us : Table) → TableIs (countedOrNone userFb) s u us m → found (record { «fb_types» = fbs; arrays = rs; «user_fbs» = us }) ≡ tablesOf s
+      pub tables-whole : (m : ℕ) (us : Table) → TableIs (countedOrNone userFb) s u us m → found (record { «fb_types» = fbs; arrays = rs; «user_fbs» = us }) ≡ typeStartsIn s
       unfolding typeTables
       tables-whole m us r =
           let j = fb-types-take .takes s (p .entries) (drop a s) (p .reads) in
@@ -64,9 +67,7 @@ pub record Standing (s : List ℕ) (t : TypeTables) (u : Tables) : Type 0 where
 
 behind : {A : Type 0} (r : Reader A) (s : List ℕ) (at to : ℕ) (xs : List A) (x : List ℕ) → at + 2 ≡ to → at ≤ length s → counted r (drop at s) ≡ got xs x
     → Holds r s (record { at = to; count = length xs }) xs
-behind r s at to xs x e h c =
-    let k = counted-left r (drop at s) xs x c in
-    record { within = omega (arith, k .1, length-drop at s); rest = x; reads = ap (λ (i : ℕ). many (length xs) r (drop i s)) (sym e) ∙ ap (many (length xs) r) (sym (drop-drop 2 at s)) ∙ k .0 }
+behind r s at to xs x e h c = subst (λ (i : ℕ). Holds r s (record { at = i; count = length xs }) xs) e (counted-stands r s at xs x h c)
 
 users-behind : (s : List ℕ) (at to : ℕ) (us : List UserFb) (x : List ℕ) → at + 2 ≡ to → at ≤ length s → countedOrNone userFb (drop at s) ≡ got us x
     → (rest : List ℕ) × (leftOf userFb s (record { at = to; count = length us }) ≡ got us rest)
@@ -83,12 +84,8 @@ users-behind s at to us x e h c = go (decLe (at + 2) (length s))
         let z : us ≡ [] = cc in
         rw z (drop to s, refl)
 
-item-read : {A : Type 0} (x : Read A) (a : A) → itemOf x ≡ found a → (rest : List ℕ) × (x ≡ got a rest)
-item-read (fault f) a e = never e
-item-read (got b rest) a e = (rest, ap (λ v. got v rest) (same-found e))
-
 standing-of : (s : List ℕ) (bs : List FbType) (rs : List Array) (us : List UserFb) (x y z : List ℕ) → counted fbType s ≡ got bs x → counted array x ≡ got rs y
-    → countedOrNone userFb y ≡ got us z → Standing s (record { fbTypes = bs; arrays = rs; userFbs = us }) (startsOf (record { fbTypes = bs; arrays = rs; userFbs = us }))
+    → countedOrNone userFb y ≡ got us z → Standing s (record { fbTypes = bs; arrays = rs; userFbs = us }) (typeStartsOf (record { fbTypes = bs; arrays = rs; userFbs = us }))
 standing-of s bs rs us x y z p q r =
     let j = fb-types-take .takes s bs x p in
     let k = arrays-take .takes x rs y q in
@@ -102,15 +99,15 @@ standing-of s bs rs us x y z p q r =
       userFbs = u .1;
     }
 
-pub standing : (s : List ℕ) (t : TypeTables) → itemOf (typeTables s) ≡ found t → Standing s t (startsOf t)
+pub standing : (s : List ℕ) (t : TypeTables) → itemOf (typeTables s) ≡ found t → Standing s t (typeStartsOf t)
 unfolding typeTables
 standing s t h =
-    let e = item-read (typeTables s) t h in
+    let e = item-got (typeTables s) t h in
     let p = both (counted fbType s) (e .1) in
     let q = both (counted array (p .middle)) (p .second) in
     let r = both (countedOrNone userFb (q .middle)) (q .second) in
     let z : record { fbTypes = p .item; arrays = q .item; userFbs = r .item } ≡ t = cc in
-    subst (λ v. Standing s v (startsOf v)) z (standing-of s (p .item) (q .item) (r .item) (p .middle) (q .middle) (r .middle) (p .first) (q .first) (r .first))
+    subst (λ v. Standing s v (typeStartsOf v)) z (standing-of s (p .item) (q .item) (r .item) (p .middle) (q .middle) (r .middle) (p .first) (q .first) (r .first))
 
 -- what the section's reader told of it
 pub record Readable (s : List ℕ) (u : Tables) : Type 0 where
@@ -118,7 +115,34 @@ pub record Readable (s : List ℕ) (u : Tables) : Type 0 where
   pub is : itemOf (typeTables s) ≡ found all
   pub stand : Standing s all u
 
-pub readable : (s : List ℕ) (u : Tables) → found u ≡ tablesOf s → Readable s u
+pub readable : (s : List ℕ) (u : Tables) → found u ≡ typeStartsIn s → Readable s u
 readable s u h =
     let k = steps (itemOf (typeTables s)) (sym h) in
     record { all = k .item; is = k .first; stand = subst (Standing s (k .item)) (same-found (k .second)) (standing s (k .item) (k .first)) }
+
+-- of a list of bytes: each count has two
+users-few : (y : List ℕ) (us : List UserFb) (z : List ℕ) → Bytes y → countedOrNone userFb y ≡ got us z → length us < 65536
+users-few y us z b e = go (decLe 2 (length y))
+  where
+    go : Dec (2 ≤ length y) → length us < 65536
+    go (yes i) = counted-few userFb y us z b (rw (le-ltb (length y) 2 i) at e)
+    go (no i) =
+        let g = rw (lt-ltb (length y) 2 (omega arith)) at e in
+        let n : us ≡ [] = cc in
+        omega (arith, ap length n)
+
+pub counts-few : (s : List ℕ) (u : Tables) → Bytes s → found u ≡ typeStartsIn s → (u .«fb_types» .count < 65536) × (u .arrays .count < 65536) × (u .«user_fbs» .count < 65536)
+unfolding typeTables
+counts-few s u b h =
+    let k = steps (itemOf (typeTables s)) (sym h) in
+    let e = item-got (typeTables s) (k .item) (k .first) in
+    let p = both (counted fbType s) (e .1) in
+    let q = both (counted array (p .middle)) (p .second) in
+    let r = both (countedOrNone userFb (q .middle)) (q .second) in
+    let j = fb-types-take .takes s (p .item) (p .middle) (p .first) .0 in
+    let l = arrays-take .takes (p .middle) (q .item) (q .middle) (q .first) .0 in
+    let c : Bytes (p .middle) = subst Bytes (sym j) (bytes-drop s (2 + fbTypesSize (p .item)) b) in
+    let d : Bytes (q .middle) = subst Bytes (sym l) (bytes-drop (p .middle) (2 + 12 * length (q .item)) c) in
+    let z : typeStartsOf (record { fbTypes = p .item; arrays = q .item; userFbs = r .item }) ≡ u = cc (same-found (k .second)) in
+    subst (λ (v : Tables). (v .«fb_types» .count < 65536) × (v .arrays .count < 65536) × (v .«user_fbs» .count < 65536)) z
+    (counted-few fbType s (p .item) (p .middle) b (p .first), counted-few array (p .middle) (q .item) (q .middle) c (q .first), users-few (q .middle) (r .item) (r .middle) d (r .first))

@@ -1,5 +1,5 @@
 -- What the code's answers mean.
-use Prim.Native.Nat.{ℕ, _+_, _≤_, _<_}
+use Prim.Native.Nat.{ℕ, _+_, _≤_}
 use mathlib.Core.List.{List}
 use mathlib.Core.Path.{_≡_}
 use lib.ListN.{length, drop}
@@ -43,8 +43,8 @@ fieldStep (field-step.Entry f m) = item (fieldIn f) m
 
 -- FB types: the code has an FB type's head, and its fields read, as many as the head says
 
-abbrev pub headIn : FbTypeDescriptor → FbTypeHead
-headIn d = record { id = d .«type_id» .0; fieldCount = d .«num_fields» }
+abbrev pub fbTypeHeadIn : FbTypeDescriptor → FbTypeHead
+fbTypeHeadIn d = record { id = d .«type_id» .0; fieldCount = d .«num_fields» }
 
 pub record FbTypeIs (s : List ℕ) (at : ℕ) (d : FbTypeDescriptor) (m : ℕ) : Type 0 where
   pub within : m ≤ length s
@@ -89,17 +89,11 @@ pub record TableIs {A : Type 0} (r : Reader (List A)) (s : List ℕ) (at : ℕ) 
   pub reads : r (drop at s) ≡ got entries (drop m s)
   pub place : t .at ≡ at + 2
   pub count : t .count ≡ length entries
-  pub small : t .count < 65536
 
 abbrev pub TableReads : {A : Type 0} → Reader (List A) → List ℕ → ℕ → TableStep → Type 0
 TableReads r s at (table-step.Refused e) = r (drop at s) ≡ fault (faultOf e)
 TableReads r s at (table-step.Entries t m) = TableIs r s at t m
 
-abbrev pub tablesFrom : TablesAnswer → Got Tables
-tablesFrom (tables-answer.Refused e) = refused (faultOf e)
-tablesFrom (tables-answer.Tables t) = found t
-
--- counts have two bytes
-abbrev pub Small : TablesAnswer → Type 0
-Small (tables-answer.Refused e) = Unit {0}
-Small (tables-answer.Tables t) = (t .«fb_types» .count < 65536) × (t .arrays .count < 65536) × (t .«user_fbs» .count < 65536)
+abbrev pub typeStartsFrom : TablesAnswer → Got Tables
+typeStartsFrom (tables-answer.Refused e) = refused (faultOf e)
+typeStartsFrom (tables-answer.Tables t) = found t

@@ -29,9 +29,9 @@ userFbsStart t = record { at = 6 + fbTypesSize (t .fbTypes) + 12 * length (t .ar
 abbrev pub fieldsStart : ℕ → FbType → Table
 fieldsStart at b = record { at = at + 4; count = length (b .fields) }
 
-abbrev pub startsOf : TypeTables → Tables
-startsOf t = record { «fb_types» = fbTypesStart t; arrays = arraysStart t; «user_fbs» = userFbsStart t }
+abbrev pub typeStartsOf : TypeTables → Tables
+typeStartsOf t = record { «fb_types» = fbTypesStart t; arrays = arraysStart t; «user_fbs» = userFbsStart t }
 
 -- what reading the section answers: its refusal, or these places
-abbrev pub tablesOf : List ℕ → Got Tables
-tablesOf s = itemOf (typeTables s) >>= λ t. found (startsOf t)
+abbrev pub typeStartsIn : List ℕ → Got Tables
+typeStartsIn s = itemOf (typeTables s) >>= λ t. found (typeStartsOf t)

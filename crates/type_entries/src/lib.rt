@@ -8,8 +8,8 @@ ghost use Rattle.format.specs.Types.{field, fbType, isString, naturalStride, st
 ghost use Rattle.format.specs.Lookups.{byteSize};
 ghost use Rattle.base.specs.Small.{byteWidth};
 ghost use Rattle.base.specs.Section.{checkedFrom, wayFrom};
-ghost use Rattle.type_entries.specs.Answers.{fieldStep, FbTypeReads, arrayIn, strideChecked, sizeFrom, arrayStep, userFbStep, TableReads, tablesFrom, Small};
-ghost use Rattle.type_entries.specs.Starts.{tablesOf};
+ghost use Rattle.type_entries.specs.Answers.{fieldStep, FbTypeReads, arrayIn, strideChecked, sizeFrom, arrayStep, userFbStep, TableReads, typeStartsFrom};
+ghost use Rattle.type_entries.specs.Starts.{typeStartsIn};
 use base::char_width::CharWidth;
 use base::error::ContainerError;
 use base::field_type::FieldType;
@@ -401,7 +401,7 @@ fn user_fb_table(s: &[u8], at: usize) -> TableStep
 
 // The section's reader: its refusal, or where the entries of its tables stand.
 pub fn tables_of(s: &[u8]) -> TablesAnswer
-    ensures { λ r. ⌜ (tablesFrom r ≡ tablesOf (now (s .entry))) × Small r ⌝ }
+    ensures { λ r. ⌜ typeStartsFrom r ≡ typeStartsIn (now (s .entry)) ⌝ }
 {
     match fb_type_table(s, 0) {
         TableStep::Refused(e) => TablesAnswer::Refused(e),

@@ -25,7 +25,7 @@ use Rattle.type_section.proofs.Walking as type-section
 use Rattle.text.specs.Text.{Wrote}
 use Rattle.entry_lines.specs.Lines.{fbTypeLine, fieldLine, arrayLine, userFbLine}
 use Rattle.listing.specs.Listing.{each, fbTypeLines}
-use Rattle.debug_walks.proofs.Walks.{step-count}
+use Rattle.base.proofs.FileLookups.{step-count}
 use Rattle.table_lines.specs.Walks.{onStep, walkText}
 use Rattle.table_lines.specs.Tables.{textOf}
 use Rattle.table_lines.proofs.Walking.{Falls, Left, left-next}

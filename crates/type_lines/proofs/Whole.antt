@@ -15,7 +15,7 @@ use Rattle.format.specs.Lookups.{typesBy, debugIn}
 use Rattle.format.proofs.Answers.{same-found, steps}
 use Rattle.format.proofs.PlacesHold.{debug-on}
 use Rattle.format.proofs.OwnRecord.{own}
-use Rattle.debug_section.specs.Lookups.{debugAt}
+use Rattle.debug_section.specs.Lookups.{debugTablesAt}
 use Rattle.entry_lines.specs.Lines.{lineLine}
 use Rattle.listing.specs.Listing.{each, typeLines, debugLines, listingOf}
 use Rattle.listing.specs.Lines.{debugLine}
@@ -27,8 +27,8 @@ types-own : (f : List ℕ) (p : Place) (x : Option TypeTables) → typesBy f p (
 types-own f p none e = refl
 types-own f p (some t) e = rw e
 
-debug-at : (f : List ℕ) (r : Container) (c : DebugCounts) → r .debug ≡ some c → debugAt f (r .header .directory .debug) ≡ debugIn byPlace f r
-unfolding debugIn debugAt
+debug-at : (f : List ℕ) (r : Container) (c : DebugCounts) → r .debug ≡ some c → debugTablesAt f (r .header .directory .debug) ≡ debugIn byPlace f r
+unfolding debugIn
 debug-at f r c d = rw d
 
 -- lines have no strings: they are the same by bytes and by places

@@ -7,7 +7,7 @@ use lib.ListN.{length, drop, length-drop}
 use lib.Seq.{drop-drop}
 use Rattle.reading.specs.Fault.{Fault}
 use Rattle.reading.specs.Reader.{fault, got, Reader, many}
-use Rattle.reading.specs.Answer.{Got, refused, found, _>>=_, indexed}
+use Rattle.reading.specs.Answer.{Got, refused, found, indexed}
 use Rattle.reading.specs.Places.{Step, stops, item, Reads, onTo, Goes, leftOf, Holds, ends, entry}
 use Rattle.reading.specs.declared.Table.{Table}
 use Rattle.reading.proofs.Width.{Width, fixed-width}
@@ -15,33 +15,13 @@ use Rattle.reading.proofs.Tables.{at-width, index-out, at-picked, at-reads, hol
 use Rattle.format.specs.Faults.{noArray, noEntry}
 use Rattle.format.specs.Types.{Field, field, FbType, fbType, Array, array, UserFb, userFb}
 use Rattle.format.specs.Record.{TypeCounts}
-use Rattle.format.proofs.Answers.{never}
 use Rattle.base.proofs.FileLookups.{step-entry}
-use Rattle.type_entries.specs.Starts.{tablesOf}
+use Rattle.type_entries.specs.Starts.{typeStartsIn}
 use Rattle.type_entries.specs.declared.Tables.{Tables}
 use Rattle.type_entries.proofs.Entries.{array-width, user-fb-fixed}
 use Rattle.type_entries.proofs.Sizes.{fields-left}
 use Rattle.type_entries.proofs.Standing.{readable}
 use Rattle.type_section.specs.Lookups.{fbTypeOfSection, arrayOfSection, userFbOfSection, fbTypeStep, withFields}
-
--- Answers made of others
-
-pub refused-then : {A B C : Type 0} (x : Got A) (m : A → B) (g : A → Got C) (f : Fault) → refused f ≡ (x >>= λ a. found (m a)) → refused f ≡ (x >>= g)
-refused-then (refused r) m g f h = cc
-refused-then (found a) m g f h = never h
-
-pub found-then : {A B C : Type 0} (x : Got A) (m : A → B) (g : B → C) (b : B) → found b ≡ (x >>= λ a. found (m a)) → found (g b) ≡ (x >>= λ a. found (g (m a)))
-found-then (refused r) m g b h = never (sym h)
-found-then (found a) m g b h = let z : b ≡ m a = cc in ap (λ v. found (g v)) z
-
--- the first answer decides, or the second is asked of it
-pub refused-first : {A B C : Type 0} (x : Got A) (k : A → Got B) (g : B → Got C) (f : Fault) → (x >>= k) ≡ refused f → refused f ≡ (x >>= λ a. (k a >>= g))
-refused-first (refused r) k g f h = cc
-refused-first (found a) k g f h = rw h
-
-pub found-first : {A B C : Type 0} (x : Got A) (k : A → Got B) (g : B → Got C) (b : B) → (x >>= k) ≡ found b → g b ≡ (x >>= λ a. (k a >>= g))
-found-first (refused r) k g b h = never h
-found-first (found a) k g b h = rw h
 
 -- The entry of an index, in a table of one width
 
@@ -74,7 +54,7 @@ fields-hold s at n b t e l =
 
 -- The section `s`, whose tables stand at `u`
 
-module _ (s : List ℕ) (u : Tables) (e : found u ≡ tablesOf s) (i : ℕ) where
+module _ (s : List ℕ) (u : Tables) (e : found u ≡ typeStartsIn s) (i : ℕ) where
   pub array-fits : i < u .arrays .count → u .arrays .at + 12 * i + 12 ≤ length s
   array-fits l = let q = readable s u e in holds-fits array s (u .arrays) (q .all .arrays) (q .stand .arrays) array-width (omega arith) i l
 

@@ -6,13 +6,13 @@ use native.Mathlib.Omega.{arith}
 use lib.Dec.{leb}
 use lib.ListN.{length, drop}
 use borrow.Author.Tests.{ne-eqb}
-use Rattle.reading.specs.Reader.{got, Reader, many}
-use Rattle.reading.specs.Answer.{found, itemOf}
-use Rattle.reading.specs.Places.{leftOf, stepOf, walked}
+use Rattle.reading.specs.Reader.{got, many}
+use Rattle.reading.specs.Answer.{found}
+use Rattle.reading.specs.Places.{stepOf}
 use Rattle.reading.specs.declared.Table.{Table}
 use Rattle.reading.proofs.Reading.{both}
 use Rattle.reading.proofs.Local.{Local, local-give, local-check, local-bind, local-number, local-many}
-use Rattle.reading.proofs.Left.{left-at, left-again, stays-local, walk-is-table}
+use Rattle.reading.proofs.Left.{left-at, left-again, stays-local, walk-gives}
 use Rattle.format.specs.Faults.{invalidFieldType, invalidArrayStride}
 use Rattle.format.specs.Types.{field, FbType, fbType, strideFits, array, userFb}
 use Rattle.type_entries.specs.Starts.{fbTypesStart, arraysStart, userFbsStart, fieldsStart}
@@ -55,15 +55,12 @@ local-user-fb =
     local-bind (local-number 1) λ n.
     local-bind (local-number 1) λ r. local-give _
 
-walk-gives : {A : Type 0} (r : Reader A) → Local r → (s : List ℕ) (t : Table) (xs : List A) (rest : List ℕ) → leftOf r s t ≡ got xs rest → walked (t .count) r s t ≡ found xs
-walk-gives r h s t xs rest e = walk-is-table s r (stays-local s h) (t .count) t refl ∙ ap itemOf e
-
 -- an FB type that reads: the step over it, and the walk over its fields
 fb-type-walk : (n : ℕ) (s : List ℕ) (t : Table) (b : FbType) (x : List ℕ) (bs : List FbType) → t .count ≡ suc n → fbType (drop (t .at) s) ≡ got b x
     → fbTypesWalked n s (record { at = length s - length x; count = t .count - 1 }) ≡ found bs → fbTypesWalked (suc n) s t ≡ found (b ∷ bs)
 unfolding stepOf
 fb-type-walk n s t b x bs c e g =
-    let f = walk-gives field local-field s (fieldsStart (t .at) b) (b .fields) _ (fields-hold s (t .at) (length (b .fields)) b x e refl .reads) in
+    let f = walk-gives s field (stays-local s local-field) (fieldsStart (t .at) b) (b .fields) _ (fields-hold s (t .at) (length (b .fields)) b x e refl .reads) in
     rw (ne-eqb (t .count) 0 (λ z. omega arith), e, f, g)
 
 fb-types-walk : (n : ℕ) (s : List ℕ) (t : Table) (bs : List FbType) (rest : List ℕ) → t .count ≡ n → many n fbType (drop (t .at) s) ≡ got bs rest → fbTypesWalked n s t ≡ found bs
@@ -80,6 +77,6 @@ pub laws : Laws
 laws =
     record {
       fbTypes = λ s t h. fb-types-walk (length (t .fbTypes)) s (fbTypesStart t) (t .fbTypes) _ refl (standing s t h .fbTypes .reads);
-      arrays = λ s t h. walk-gives array local-array s (arraysStart t) (t .arrays) _ (standing s t h .arrays .reads);
-      userFbs = λ s t h. walk-gives userFb local-user-fb s (userFbsStart t) (t .userFbs) _ (standing s t h .userFbs);
+      arrays = λ s t h. walk-gives s array (stays-local s local-array) (arraysStart t) (t .arrays) _ (standing s t h .arrays .reads);
+      userFbs = λ s t h. walk-gives s userFb (stays-local s local-user-fb) (userFbsStart t) (t .userFbs) _ (standing s t h .userFbs);
     }

@@ -9,7 +9,7 @@ use Rattle.format.specs.Types.{Field, field, Array, UserFb}
 use Rattle.format.specs.Record as record-of
 use Rattle.format.specs.Lookups.{FbTypeHead}
 use Rattle.base.specs.Error.{faultOf}
-use Rattle.type_entries.specs.Answers.{headIn, fieldIn, arrayIn, userFbIn}
+use Rattle.type_entries.specs.Answers.{fbTypeHeadIn, fieldIn, arrayIn, userFbIn}
 use Rattle.type_entries.specs.declared.FbTypeDescriptor.{FbTypeDescriptor}
 use Rattle.type_section.specs.Lookups.{fbTypeOfSection, FbTypeEntry}
 use Rattle.type_section.specs.declared.TypeCounts.{TypeCounts}
@@ -34,21 +34,21 @@ use Rattle.type_section.specs.declared.UserFbAnswer.the-variants as user
 use Rattle.type_section.specs.declared.UserFbNext.{UserFbNext}
 use Rattle.type_section.specs.declared.UserFbNext.the-variants as user-fb-next
 
-abbrev pub countsIn : TypeCounts → record-of.TypeCounts
-countsIn c = record { fbTypes = c .«fb_types»; arrays = c .arrays; userFbs = c .«user_fbs» }
+abbrev pub typeCountsIn : TypeCounts → record-of.TypeCounts
+typeCountsIn c = record { fbTypes = c .«fb_types»; arrays = c .arrays; userFbs = c .«user_fbs» }
 
-abbrev pub typesFrom : TypesAnswer → Got record-of.TypeCounts
-typesFrom (types-answer.Refused e) = refused (faultOf e)
-typesFrom (types-answer.Counts c) = found (countsIn c)
+abbrev pub typeCountsFrom : TypesAnswer → Got record-of.TypeCounts
+typeCountsFrom (types-answer.Refused e) = refused (faultOf e)
+typeCountsFrom (types-answer.Counts c) = found (typeCountsIn c)
 
 -- FB types
 
 abbrev pub fbTypeFrom : FbTypeAnswer → Got FbTypeHead
 fbTypeFrom (fb-type-answer.Refused e) = refused (faultOf e)
-fbTypeFrom (fb-type-answer.Entry d) = found (headIn d)
+fbTypeFrom (fb-type-answer.Entry d) = found (fbTypeHeadIn d)
 
 -- the code has an FB type's head and the place of its fields
-pub record FbTypeIs (s : List ℕ) (index : ℕ) (d : FbTypeDescriptor) (at : ℕ) : Type 0 where
+pub record FbTypePlacedIs (s : List ℕ) (index : ℕ) (d : FbTypeDescriptor) (at : ℕ) : Type 0 where
   pub fields : List Field
   pub count : length fields ≡ d .«num_fields»
   pub is : fbTypeOfSection s index ≡ found (record { id = d .«type_id» .0; fields = fields })
@@ -56,12 +56,12 @@ pub record FbTypeIs (s : List ℕ) (index : ℕ) (d : FbTypeDescriptor) (at : �
 
 abbrev pub FbTypeFound : List ℕ → ℕ → FbTypePlaced → Type 0
 FbTypeFound s index (fb-type-placed.Refused e) = fbTypeOfSection s index ≡ refused (faultOf e)
-FbTypeFound s index (fb-type-placed.Entry d at) = FbTypeIs s index d at
+FbTypeFound s index (fb-type-placed.Entry d at) = FbTypePlacedIs s index d at
 
 abbrev pub fbTypeNextFrom : FbTypeNext → Next FbTypeEntry
 fbTypeNextFrom fb-type-next.End = ends
 fbTypeNextFrom (fb-type-next.Refused e) = faulty (faultOf e)
-fbTypeNextFrom (fb-type-next.Entry d fields t) = entry (record { head = headIn d; fields = fields }) t
+fbTypeNextFrom (fb-type-next.Entry d fields t) = entry (record { head = fbTypeHeadIn d; fields = fields }) t
 
 -- Fields
 

@@ -11,12 +11,12 @@ use Rattle.format.specs.Types.{Field, field, FbType, fbType, Array, array, User
 use Rattle.format.specs.Record.{TypeCounts}
 use Rattle.format.specs.Lookups.{readAt, FbTypeHead, fbTypeOf, fieldOf, arrayOf, arraySizeOf, userFbOf}
 use Rattle.base.specs.Section.{stepIn}
-use Rattle.type_entries.specs.Starts.{fbTypesStart, arraysStart, userFbsStart, fieldsStart, startsOf}
+use Rattle.type_entries.specs.Starts.{fbTypesStart, arraysStart, userFbsStart, fieldsStart, typeStartsOf}
 use Rattle.type_entries.specs.declared.Tables.{Tables}
 
 -- the section's reader: the record's counts
-abbrev pub countsOf : List ℕ → Got TypeCounts
-countsOf s = itemOf (typeTables s) >>= λ t. found (record { fbTypes = length (t .fbTypes); arrays = length (t .arrays); userFbs = length (t .userFbs) })
+abbrev pub typeCountsOfSection : List ℕ → Got TypeCounts
+typeCountsOfSection s = itemOf (typeTables s) >>= λ t. found (record { fbTypes = length (t .fbTypes); arrays = length (t .arrays); userFbs = length (t .userFbs) })
 
 -- Lookups in the section's bytes
 
@@ -53,7 +53,7 @@ userFbAt f p i = readAt f p typeTables >>= userFbOf i
 -- Where walks start
 
 abbrev pub tablesAt : List ℕ → Place → Got Tables
-tablesAt f p = readAt f p typeTables >>= λ t. found (startsOf t)
+tablesAt f p = readAt f p typeTables >>= λ t. found (typeStartsOf t)
 
 abbrev pub fbTypesAt : List ℕ → Place → Got Table
 fbTypesAt f p = readAt f p typeTables >>= λ t. found (fbTypesStart t)
@@ -70,13 +70,13 @@ pub record FbTypeEntry : Type 0 where
   pub head : FbTypeHead
   pub fields : Table
 
-abbrev pub headOf : FbType → FbTypeHead
-headOf b = record { id = b .id; fieldCount = length (b .fields) }
+abbrev pub fbTypeHeadOf : FbType → FbTypeHead
+fbTypeHeadOf b = record { id = b .id; fieldCount = length (b .fields) }
 
 abbrev pub withFields : Table → Next FbType → Next FbTypeEntry
 withFields t ends = ends
 withFields t (faulty f) = faulty f
-withFields t (entry b u) = entry (record { head = headOf b; fields = fieldsStart (t .at) b }) u
+withFields t (entry b u) = entry (record { head = fbTypeHeadOf b; fields = fieldsStart (t .at) b }) u
 
 abbrev pub fbTypeStep : List ℕ → Table → Next FbTypeEntry
 fbTypeStep s t = withFields t (stepOf fbType s t)

@@ -3,9 +3,9 @@ ghost use mathlib.Core.Path.{_≡_};
 ghost use Rattle.reading.specs.Places.{stepOf};
 ghost use Rattle.format.specs.Types.{field, array, userFb};
 ghost use Rattle.base.specs.Section.{placeIn, startFrom};
-ghost use Rattle.type_entries.specs.Answers.{sizeFrom, tablesFrom};
-ghost use Rattle.type_section.specs.Answers.{typesFrom, fbTypeFrom, FbTypeFound, fieldFrom, arrayFrom, userFbFrom, fbTypeNextFrom, fieldNextFrom, arrayNextFrom, userFbNextFrom};
-ghost use Rattle.type_section.specs.Lookups.{countsOf, fieldOfSection, arrayOfSection, userFbOfSection, tablesAt, fbTypeAt, fieldAt, arrayAt, arraySizeAt, userFbAt, fbTypesAt, arraysAt, userFbsAt, fbTypeStep, nextFbTypeAt, nextFieldAt, nextArrayAt, nextUserFbAt};
+ghost use Rattle.type_entries.specs.Answers.{sizeFrom, typeStartsFrom};
+ghost use Rattle.type_section.specs.Answers.{typeCountsFrom, fbTypeFrom, FbTypeFound, fieldFrom, arrayFrom, userFbFrom, fbTypeNextFrom, fieldNextFrom, arrayNextFrom, userFbNextFrom};
+ghost use Rattle.type_section.specs.Lookups.{typeCountsOfSection, fieldOfSection, arrayOfSection, userFbOfSection, tablesAt, fbTypeAt, fieldAt, arrayAt, arraySizeAt, userFbAt, fbTypesAt, arraysAt, userFbsAt, fbTypeStep, nextFbTypeAt, nextFieldAt, nextArrayAt, nextUserFbAt};
 ghost use Rattle.type_section.specs.Laws.{Laws};
 use base::error::ContainerError;
 use base::section::PartAnswer;
@@ -96,7 +96,7 @@ pub enum UserFbNext {
 
 // The section's reader: its refusal, or the counts of its tables.
 pub fn read_from(s: &[u8]) -> TypesAnswer
-    ensures { λ r. ⌜ typesFrom r ≡ countsOf (now (s .entry)) ⌝ }
+    ensures { λ r. ⌜ typeCountsFrom r ≡ typeCountsOfSection (now (s .entry)) ⌝ }
 {
     match tables_of(s) {
         TablesAnswer::Refused(e) => TypesAnswer::Refused(e),
@@ -263,7 +263,7 @@ pub fn user_fb(file: &[u8], section: Section, index: u16) -> UserFbAnswer
 
 // The tables of the section, read once.
 fn tables(file: &[u8], section: Section) -> TablesAnswer
-    ensures { λ r. ⌜ tablesFrom r ≡ tablesAt (now (file .entry)) (placeIn section) ⌝ }
+    ensures { λ r. ⌜ typeStartsFrom r ≡ tablesAt (now (file .entry)) (placeIn section) ⌝ }
 {
     match section_part(file, section) {
         PartAnswer::Refused(e) => TablesAnswer::Refused(e),

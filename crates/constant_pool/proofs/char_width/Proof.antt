@@ -6,7 +6,7 @@ use Rattle.format.specs.Faults.{invalidConstantType}
 use Rattle.format.specs.Constants.{charWidth}
 use Rattle.base.specs.Section.{placeIn}
 use Rattle.base.specs.Small.{constTypeNumber, maybeWidth, byteWidth}
-use Rattle.constant_pool.specs.Answers.{keptIn, entryIn, constFrom}
+use Rattle.constant_pool.specs.Answers.{keptIn, constIn, constFrom}
 use Rattle.constant_pool.proofs.Getters.{after-refused, after-found, width-by, width-none, width-some}
 use borrow.Author.Needs.{needs}
 use Rattle.constant_pool.proofs.char_width.Statement.{statement}
@@ -25,7 +25,7 @@ returns-2 c =
     let e = sym (ap constFrom (x .1)) ∙ c .before .before .before .before .before .before .before .entry .ensures .0 in
     let w = sym (ap maybeWidth (c .before .enum-told .given .1)) ∙ c .before .before .before .char-width .ensures in
     ap (λ n. refused (invalidConstantType n)) (c .number .ensures) ∙ width-none (constTypeNumber (x .0 .0 .«const_type»)) (keptIn (x .0 .0 .kept)) w
-    ∙ after-found _ charWidth (entryIn (x .0 .0)) e ∙ width-by (now (a .file)) (placeIn (a .section)) (a .index .0)
+    ∙ after-found _ charWidth (constIn (x .0 .0)) e ∙ width-by (now (a .file)) (placeIn (a .section)) (a .index .0)
 
 returns-3 : tie.Need-returns-3
 returns-3 c =
@@ -34,7 +34,7 @@ returns-3 c =
     let y = c .before .w .given in
     let e = sym (ap constFrom (x .1)) ∙ c .before .before .before .before .before .before .before .entry .ensures .0 in
     let w = sym (ap maybeWidth (y .1)) ∙ c .before .before .before .char-width .ensures in
-    width-some (constTypeNumber (x .0 .0 .«const_type»)) (keptIn (x .0 .0 .kept)) (byteWidth (y .0 .0)) w ∙ after-found _ charWidth (entryIn (x .0 .0)) e ∙ width-by (now (a .file)) (placeIn (a .section)) (a .index .0)
+    width-some (constTypeNumber (x .0 .0 .«const_type»)) (keptIn (x .0 .0 .kept)) (byteWidth (y .0 .0)) w ∙ after-found _ charWidth (constIn (x .0 .0)) e ∙ width-by (now (a .file)) (placeIn (a .section)) (a .index .0)
 
 pub char-width-spec : {M : Type 1} → statement M
 char-width-spec =

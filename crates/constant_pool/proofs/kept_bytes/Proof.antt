@@ -5,7 +5,7 @@ use Rattle.reading.specs.Answer.{refused}
 use Rattle.format.specs.Faults.{invalidConstantType}
 use Rattle.base.specs.Small.{constTypeNumber}
 use Rattle.constant_pool.specs.Lookups.{bytesIn}
-use Rattle.constant_pool.specs.Answers.{keptIn, entryIn, constFrom}
+use Rattle.constant_pool.specs.Answers.{keptIn, constIn, constFrom}
 use Rattle.constant_pool.proofs.Getters.{after-refused, after-found, bytes-other, bytes-same}
 use borrow.Author.Needs.{needs}
 use Rattle.constant_pool.proofs.kept_bytes.Statement.{statement}
@@ -19,7 +19,7 @@ returns c =
     let kind = constTypeNumber (a .expected) in
     let stored = c .before .before .number .ensures in
     let other = bytes-other kind (constTypeNumber (x .0 .0 .«const_type»)) (keptIn (x .0 .0 .kept)) (λ h. omega arith) in
-    ap (λ k. refused (invalidConstantType k)) stored ∙ other ∙ after-found _ (λ d. bytesIn kind (d .kind) (d .kept)) (entryIn (x .0 .0)) e
+    ap (λ k. refused (invalidConstantType k)) stored ∙ other ∙ after-found _ (λ d. bytesIn kind (d .kind) (d .kept)) (constIn (x .0 .0)) e
 
 returns-2 : tie.Need-returns-2
 returns-2 c =
@@ -35,7 +35,7 @@ returns-3 c =
     let kind = constTypeNumber (a .expected) in
     let stored = constTypeNumber (x .0 .0 .«const_type») in
     let same : stored ≡ kind = omega arith in
-    bytes-same kind stored _ same ∙ ap (λ k. bytesIn kind stored (keptIn k)) (sym (c .before .kept .given .1)) ∙ after-found _ (λ d. bytesIn kind (d .kind) (d .kept)) (entryIn (x .0 .0)) e
+    bytes-same kind stored _ same ∙ ap (λ k. bytesIn kind stored (keptIn k)) (sym (c .before .kept .given .1)) ∙ after-found _ (λ d. bytesIn kind (d .kind) (d .kept)) (constIn (x .0 .0)) e
 
 returns-4 : tie.Need-returns-4
 returns-4 c =
@@ -44,7 +44,7 @@ returns-4 c =
     let e = sym (ap constFrom (x .1)) ∙ c .before .before .before .before .before .before .before .before .entry .ensures .0 in
     let kind = constTypeNumber (a .expected) in
     ap (λ k. refused (invalidConstantType k)) (c .before .before .before .before .number .ensures) ∙ ap (λ k. bytesIn kind (constTypeNumber (x .0 .0 .«const_type»)) (keptIn k)) (sym (c .enum-told .given .1))
-    ∙ after-found _ (λ d. bytesIn kind (d .kind) (d .kept)) (entryIn (x .0 .0)) e
+    ∙ after-found _ (λ d. bytesIn kind (d .kind) (d .kept)) (constIn (x .0 .0)) e
 
 pub kept-bytes-spec : {M : Type 1} → statement M
 kept-bytes-spec =

@@ -7,7 +7,7 @@ use Rattle.format.specs.Faults.{invalidConstantType}
 use Rattle.format.specs.Constants.{stringIn, asString}
 use Rattle.base.specs.Section.{placeIn}
 use Rattle.base.specs.Small.{constTypeNumber}
-use Rattle.constant_pool.specs.Answers.{keptIn, KeptEnds, entryIn, constFrom, ConstEnds}
+use Rattle.constant_pool.specs.Answers.{keptIn, KeptEnds, constIn, constFrom, ConstEnds}
 use Rattle.constant_pool.proofs.Getters.{after-refused, after-found, string-by}
 use borrow.Author.Needs.{needs}
 use Rattle.constant_pool.proofs.string_part.Statement.{statement}
@@ -25,7 +25,7 @@ returns-2 c =
     let x = c .before .before .before .before .c .given in
     let e = sym (ap constFrom (x .1)) ∙ c .before .before .before .before .before .before .entry .ensures .0 in
     let k = ap (λ k. stringIn (constTypeNumber (x .0 .0 .«const_type»)) (keptIn k)) (sym (c .before .enum-told .given .1)) in
-    (ap (λ n. refused (invalidConstantType n)) (c .number .ensures) ∙ k ∙ after-found _ asString (entryIn (x .0 .0)) e ∙ string-by (now (a .file)) (placeIn (a .section)) (a .index .0), tt)
+    (ap (λ n. refused (invalidConstantType n)) (c .number .ensures) ∙ k ∙ after-found _ asString (constIn (x .0 .0)) e ∙ string-by (now (a .file)) (placeIn (a .section)) (a .index .0), tt)
 
 returns-3 : tie.Need-returns-3
 returns-3 c =
@@ -34,7 +34,7 @@ returns-3 c =
     let y = c .before .kept .given in
     let e = sym (ap constFrom (x .1)) ∙ c .before .before .before .before .before .before .entry .ensures .0 in
     let k = ap (λ k. stringIn (constTypeNumber (x .0 .0 .«const_type»)) (keptIn k)) (sym (y .1)) in
-    (k ∙ after-found _ asString (entryIn (x .0 .0)) e ∙ string-by (now (a .file)) (placeIn (a .section)) (a .index .0), subst (KeptEnds (length (now (a .file)))) (y .1) (subst (ConstEnds (length (now (a .file)))) (x .1) (c .before .before .before .before .before .before .entry .ensures .1)))
+    (k ∙ after-found _ asString (constIn (x .0 .0)) e ∙ string-by (now (a .file)) (placeIn (a .section)) (a .index .0), subst (KeptEnds (length (now (a .file)))) (y .1) (subst (ConstEnds (length (now (a .file)))) (x .1) (c .before .before .before .before .before .before .entry .ensures .1)))
 
 pub string-part-spec : {M : Type 1} → statement M
 string-part-spec =

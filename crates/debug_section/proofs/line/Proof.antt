@@ -3,14 +3,14 @@ use mathlib.Core.Path.{sym, ap, subst, _∙_}
 use native.Mathlib.Omega.{arith}
 use denote.Ref.{now}
 use Rattle.base.specs.Section.{placeIn}
-use Rattle.debug_section.specs.Answers.{startsFrom, Lies}
+use Rattle.debug_section.specs.Answers.{startsFrom, StartsInside}
 use Rattle.debug_section.proofs.Lookups.{refused-then, in-lines}
 use borrow.Author.Needs.{needs}
 use Rattle.debug_section.proofs.line.Statement.{statement}
 use Rattle.debug_section.proofs.line.Tie as tie
 
 part-line-end : tie.Need-part-line-end
-part-line-end c = omega (arith, subst (Lies _ _) (c .before .before .before .t .given .1) (c .before .before .before .before .before .tables .ensures .1) .within)
+part-line-end c = omega (arith, subst (StartsInside _ _) (c .before .before .before .t .given .1) (c .before .before .before .before .before .tables .ensures .1) .within)
 
 returns : tie.Need-returns
 returns c =
@@ -21,7 +21,7 @@ returns-2 : tie.Need-returns-2
 returns-2 c =
     let a = c .before .before .before .before .before .before .before .before .before .args in
     let k = ap startsFrom (sym (c .before .before .before .before .before .t .given .1)) ∙ c .before .before .before .before .before .before .before .tables .ensures .0 in
-    let i = subst (Lies (now (a .file)) (placeIn (a .section))) (c .before .before .before .before .before .t .given .1) (c .before .before .before .before .before .before .before .tables .ensures .1) in
+    let i = subst (StartsInside (now (a .file)) (placeIn (a .section))) (c .before .before .before .before .before .t .given .1) (c .before .before .before .before .before .before .before .tables .ensures .1) in
     in-lines (now (a .file)) (placeIn (a .section)) k i _ (c .line .ensures)
 
 pub line-spec : {M : Type 1} → statement M

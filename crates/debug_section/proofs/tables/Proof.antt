@@ -3,7 +3,7 @@ use mathlib.Core.Path.{sym, ap, subst, _∙_}
 use native.Mathlib.Omega.{arith}
 use denote.Ref.{now}
 use Rattle.base.specs.Section.{placeIn, partFrom, PartWithin}
-use Rattle.debug_tables.specs.Answers.{tablesFrom}
+use Rattle.debug_tables.specs.Answers.{debugTablesFrom}
 use Rattle.debug_section.proofs.Parts.{in-part, starts-refused, starts-out, starts-in}
 use borrow.Author.Needs.{needs}
 use Rattle.debug_section.proofs.tables.Statement.{statement}
@@ -15,9 +15,6 @@ add-end c = omega (arith, subst (PartWithin _) (c .before .before .p .given .1) 
 part-read-tables-end : tie.Need-part-read-tables-end
 part-read-tables-end c = omega (arith, subst (PartWithin _) (c .before .before .p .given .1) (c .before .before .before .before .debug-part .ensures .1))
 
-read-tables-requires : tie.Need-read-tables-requires
-read-tables-requires c κs = omega (arith, subst (PartWithin _) (c .before .before .before .p .given .1) (c .before .before .before .before .before .debug-part .ensures .1))
-
 returns : tie.Need-returns
 returns c =
     let a = c .before .before .before .before .before .args in
@@ -27,13 +24,13 @@ returns-2 : tie.Need-returns-2
 returns-2 c =
     let a = c .before .before .before .before .before .before .before .before .before .before .args in
     let k = ap partFrom (sym (c .before .before .before .before .before .before .p .given .1)) ∙ c .before .before .before .before .before .before .before .before .debug-part .ensures .0 in
-    (starts-out (now (a .file)) (placeIn (a .section)) k (ap tablesFrom (sym (c .enum-told .given .1)) ∙ c .before .before .read-tables .ensures .0), tt)
+    (starts-out (now (a .file)) (placeIn (a .section)) k (ap debugTablesFrom (sym (c .enum-told .given .1)) ∙ c .before .before .read-tables .ensures), tt)
 
 returns-3 : tie.Need-returns-3
 returns-3 c =
     let a = c .before .before .before .before .before .before .before .before .before .before .before .args in
     let k = ap partFrom (sym (c .before .before .before .before .before .before .before .p .given .1)) ∙ c .before .before .before .before .before .before .before .before .before .debug-part .ensures .0 in
-    (starts-in (now (a .file)) (placeIn (a .section)) k (ap tablesFrom (sym (c .before .t .given .1)) ∙ c .before .before .before .read-tables .ensures .0), in-part (now (a .file)) (placeIn (a .section)) k .inside)
+    (starts-in (now (a .file)) (placeIn (a .section)) k (ap debugTablesFrom (sym (c .before .t .given .1)) ∙ c .before .before .before .read-tables .ensures), in-part (now (a .file)) (placeIn (a .section)) k .inside)
 
 pub tables-spec : {M : Type 1} → statement M
 tables-spec =
@@ -46,7 +43,7 @@ tables-spec =
     (λ c. search needs)
     (λ c. search needs)
     part-read-tables-end
-    read-tables-requires
+    (λ c κs. search needs)
     (λ c. search needs)
     (λ c. search needs)
     returns

@@ -1,5 +1,5 @@
 -- `debug_tables::laws_hold` meets its contract.
-use Rattle.debug_tables.proofs.Standing.{laws}
+use Rattle.debug_tables.proofs.Few.{laws}
 use Rattle.debug_tables.proofs.laws_hold.Statement.{statement}
 use Rattle.debug_tables.proofs.laws_hold.Tie as tie
 

@@ -3,7 +3,7 @@ use mathlib.Core.Path.{sym, ap, _∙_}
 use native.Mathlib.Omega.{arith}
 use denote.Ref.{now}
 use Rattle.reading.proofs.Passing.{goes-told}
-use Rattle.debug_text.specs.Answers.{keepIn, wayOf}
+use Rattle.debug_text.specs.Answers.{wayOf}
 use Rattle.debug_tables.specs.Starts.{entriesOf}
 use Rattle.debug_tables.specs.Answers.{kindIn}
 use Rattle.debug_tables.proofs.Payloads.{listed-short, listed-stop, listed-is, other-short, other-is}
@@ -14,37 +14,35 @@ use Rattle.debug_tables.proofs.read_payload.Tie as tie
 returns : tie.Need-returns
 returns c =
     let a = c .before .before .before .before .args in
-    listed-short (keepIn (a .base) (now (a .s))) (kindIn (a .kind)) (a .size) (now (a .s)) (a .at) (sym (c .before .before .is-listed .ensures) ∙ c .before .if1 .taken) (c .if2 .taken)
+    listed-short (kindIn (a .kind)) (a .size) (now (a .s)) (a .at) (sym (c .before .before .is-listed .ensures) ∙ c .before .if1 .taken) (c .if2 .taken)
 
 returns-2 : tie.Need-returns-2
 returns-2 c =
     let a = c .before .before .before .before .before .before .before .before .before .args in
     let s = now (a .s) in
-    let keep = keepIn (a .base) s in
     let k = kindIn (a .kind) in
     let n = c .before .before .before .before .u16-at .result in
-    let g = goes-told (entriesOf keep k n) s _ (ap wayOf (c .before .e .given .1)) (c .before .before .before .skip-entries .ensures) in
-    listed-stop keep k (a .size) s (a .at) (sym (c .before .before .before .before .before .before .before .is-listed .ensures) ∙ c .before .before .before .before .before .before .if1 .taken) n (omega arith) (c .before .before .before .before .u16-at .ensures) _ g
+    let g = goes-told (entriesOf k n) s _ (ap wayOf (c .before .e .given .1)) (c .before .before .before .skip-entries .ensures) in
+    listed-stop k (a .size) s (a .at) (sym (c .before .before .before .before .before .before .before .is-listed .ensures) ∙ c .before .before .before .before .before .before .if1 .taken) n (omega arith) (c .before .before .before .before .u16-at .ensures) _ g
 
 returns-3 : tie.Need-returns-3
 returns-3 c =
     let a = c .before .before .before .before .before .before .before .before .before .args in
     let s = now (a .s) in
-    let keep = keepIn (a .base) s in
     let k = kindIn (a .kind) in
     let n = c .before .before .before .before .u16-at .result in
-    let g = goes-told (entriesOf keep k n) s _ (ap wayOf (c .before .m .given .1)) (c .before .before .before .skip-entries .ensures) in
-    listed-is keep k (a .size) s (a .at) (sym (c .before .before .before .before .before .before .before .is-listed .ensures) ∙ c .before .before .before .before .before .before .if1 .taken) n (omega arith) (c .before .before .before .before .u16-at .ensures) _ (search needs) g
+    let g = goes-told (entriesOf k n) s _ (ap wayOf (c .before .m .given .1)) (c .before .before .before .skip-entries .ensures) in
+    listed-is k (a .size) s (a .at) (sym (c .before .before .before .before .before .before .before .is-listed .ensures) ∙ c .before .before .before .before .before .before .if1 .taken) n (omega arith) (c .before .before .before .before .u16-at .ensures) _ g
 
 returns-4 : tie.Need-returns-4
 returns-4 c =
     let a = c .before .before .before .before .args in
-    other-short (keepIn (a .base) (now (a .s))) (kindIn (a .kind)) (a .size) (now (a .s)) (a .at) (sym (c .before .before .is-listed .ensures) ∙ c .before .if1 .left) (c .if3 .taken)
+    other-short (kindIn (a .kind)) (a .size) (now (a .s)) (a .at) (sym (c .before .before .is-listed .ensures) ∙ c .before .if1 .left) (c .if3 .taken)
 
 returns-5 : tie.Need-returns-5
 returns-5 c =
     let a = c .before .before .before .before .args in
-    other-is (keepIn (a .base) (now (a .s))) (kindIn (a .kind)) (a .size) (now (a .s)) (a .at) (sym (c .before .before .is-listed .ensures) ∙ c .before .if1 .left) (omega arith)
+    other-is (kindIn (a .kind)) (a .size) (now (a .s)) (a .at) (sym (c .before .before .is-listed .ensures) ∙ c .before .if1 .left) (omega arith)
 
 pub read-payload-spec : {M : Type 1} → statement M
 read-payload-spec =

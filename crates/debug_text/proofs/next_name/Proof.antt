@@ -2,14 +2,15 @@
 use mathlib.Core.Path.{ap}
 use native.Mathlib.Omega.{arith}
 use Rattle.debug_text.specs.Answers.{textStep}
-use Rattle.debug_text.proofs.Walks.{step-none, step-past, step-read}
+use Rattle.base.proofs.FileLookups.{step-ends}
+use Rattle.debug_text.proofs.Walks.{step-past, step-read}
 use Rattle.debug_text.proofs.Texts.{name-needs}
 use borrow.Author.Needs.{needs}
 use Rattle.debug_text.proofs.next_name.Statement.{statement}
 use Rattle.debug_text.proofs.next_name.Tie as tie
 
 returns : tie.Need-returns
-returns c = step-none _ _ _ (c .if1 .taken)
+returns c = step-ends _ _ _ (c .if1 .taken)
 
 returns-2 : tie.Need-returns-2
 returns-2 c = step-past _ _ _ _ (name-needs _) (omega arith) (c .before .if1 .left) (c .if2 .taken)

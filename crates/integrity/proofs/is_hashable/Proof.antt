@@ -1,5 +1,6 @@
--- `integrity::is_hashable` meets its contract: size 0, before byte 256, and then whether it ends in the file.
-use Rattle.integrity.proofs.Strings.{hashable-empty, hashable-early, hashable-late}
+-- `integrity::is_hashable` meets its contract: size 0, and then whether it lies in the file.
+use mathlib.Core.Path.{_∙_}
+use Rattle.integrity.proofs.Strings.{hashable-empty, hashable-inside}
 use borrow.Author.Needs.{needs}
 use Rattle.integrity.proofs.is_hashable.Statement.{statement}
 use Rattle.integrity.proofs.is_hashable.Tie as tie
@@ -8,10 +9,7 @@ returns : tie.Need-returns
 returns c = hashable-empty _ _ (c .if1 .taken)
 
 returns-2 : tie.Need-returns-2
-returns-2 c = hashable-early _ _ (c .before .if1 .left) (c .if2 .taken)
-
-returns-3 : tie.Need-returns-3
-returns-3 c = hashable-late _ _ (c .before .if1 .left) (c .if2 .left)
+returns-2 c = c .is-inside .ensures ∙ hashable-inside _ _ (c .before .if1 .left)
 
 pub is-hashable-spec : {M : Type 1} → statement M
-is-hashable-spec = tie.close (tie.spec (λ c. search needs) (λ c. search needs) returns returns-2 (λ c. search needs) returns-3)
+is-hashable-spec = tie.close (tie.spec returns (λ c κs. search needs) returns-2)

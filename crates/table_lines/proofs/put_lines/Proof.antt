@@ -8,7 +8,7 @@ use Rattle.base.specs.Section.{placeIn}
 use Rattle.format.specs.Debug.{line}
 use Rattle.line_map.specs.Answers.{lineNextFrom}
 use Rattle.debug_section.specs.Answers.{startsFrom}
-use Rattle.debug_walks.specs.Steps.{stepAt}
+use Rattle.debug_walks.specs.Steps.{debugStepAt}
 use Rattle.entry_lines.specs.Lines.{lineLine}
 use Rattle.table_lines.specs.Tables.{linesText}
 use Rattle.table_lines.proofs.Walking.{Left, left-start, left-end, left-ends, left-stops, left-full, left-more}
@@ -19,7 +19,7 @@ use Rattle.table_lines.proofs.put_lines.Tie as tie
 
 abbrev Inv-loop : tie.InvT-loop
 Inv-loop out₀ at file section rest₀ next₀ out rest next =
-    (i : ℕ) × Left (stepAt file (placeIn section) line) (λ j. lineLine) out₀ at (linesText file (placeIn section)) out i next rest
+    (i : ℕ) × Left (debugStepAt file (placeIn section) line) (λ j. lineLine) out₀ at (linesText file (placeIn section)) out i next rest
 
 abbrev μ-loop : tie.MeasureT-loop
 μ-loop out₀ at file section rest₀ next₀ out rest next = rest .count

@@ -5,7 +5,7 @@ use native.Mathlib.Omega.{arith}
 use denote.Ref.{now}
 use Rattle.format.specs.Lookups.{programOf}
 use Rattle.base.specs.Error.{faultOf}
-use Rattle.task_table.specs.Answers.{countsIn}
+use Rattle.task_table.specs.Answers.{taskCountsIn}
 use Rattle.task_table.proofs.Tables.{counts-refused, program-out, program-fits, program-found}
 use borrow.Author.Needs.{needs}
 use Rattle.task_table.proofs.find_program.Statement.{statement}
@@ -19,7 +19,7 @@ returns : tie.Need-returns
 returns c =
     let a = c .before .before .before .before .before .before .before .args in
     let v = c .before .before .before .counts .given in
-    program-out (now (a .s)) (countsIn (v .0 .0)) (rw (v .1) at (c .before .before .before .before .before .read-from .ensures)) (a .index) (c .if1 .taken)
+    program-out (now (a .s)) (taskCountsIn (v .0 .0)) (rw (v .1) at (c .before .before .before .before .before .read-from .ensures)) (a .index) (c .if1 .taken)
 
 add-at : tie.Need-add-at
 add-at c = omega (arith, first (c .before))
@@ -28,7 +28,7 @@ program-at-requires : tie.Need-program-at-requires
 program-at-requires c κs =
     let a = c .before .before .before .before .before .before .before .before .before .args in
     let v = c .before .before .before .before .before .counts .given in
-    let fits = program-fits (now (a .s)) (countsIn (v .0 .0)) (rw (v .1) at (c .before .before .before .before .before .before .before .read-from .ensures)) (a .index) (c .before .before .if1 .left) in
+    let fits = program-fits (now (a .s)) (taskCountsIn (v .0 .0)) (rw (v .1) at (c .before .before .before .before .before .before .before .read-from .ensures)) (a .index) (c .before .before .if1 .left) in
     omega (arith, fits, first (c .before))
 
 returns-2 : tie.Need-returns-2
@@ -41,7 +41,7 @@ returns-3 : tie.Need-returns-3
 returns-3 c =
     let a = c .before .before .before .before .before .before .before .before .before .before .args in
     let v = c .before .before .before .before .before .before .counts .given in
-    program-found (now (a .s)) (countsIn (v .0 .0)) (rw (v .1) at (c .before .before .before .before .before .before .before .before .read-from .ensures)) (a .index) (c .before .before .before .if1 .left) _ _ (rw (first (c .before .before)) at (c .program-at .ensures))
+    program-found (now (a .s)) (taskCountsIn (v .0 .0)) (rw (v .1) at (c .before .before .before .before .before .before .before .before .read-from .ensures)) (a .index) (c .before .before .before .if1 .left) _ _ (rw (first (c .before .before)) at (c .program-at .ensures))
 
 pub find-program-spec : {M : Type 1} → statement M
 find-program-spec =

@@ -7,7 +7,7 @@ use Rattle.reading.proofs.Passing.{reads-told}
 use Rattle.format.specs.Tasks.{task}
 use Rattle.format.specs.Lookups.{taskOf}
 use Rattle.base.specs.Error.{faultOf}
-use Rattle.task_table.specs.Answers.{taskStep, countsIn}
+use Rattle.task_table.specs.Answers.{taskStep, taskCountsIn}
 use Rattle.task_table.proofs.Tables.{counts-refused, task-out, task-fits, task-found, task-never}
 use borrow.Author.Needs.{needs}
 use Rattle.task_table.proofs.find_task.Statement.{statement}
@@ -17,13 +17,13 @@ returns : tie.Need-returns
 returns c =
     let a = c .before .before .before .before .before .before .before .args in
     let v = c .before .before .before .counts .given in
-    task-out (now (a .s)) (countsIn (v .0 .0)) (rw (v .1) at (c .before .before .before .before .before .read-from .ensures)) (a .index) (c .if1 .taken)
+    task-out (now (a .s)) (taskCountsIn (v .0 .0)) (rw (v .1) at (c .before .before .before .before .before .read-from .ensures)) (a .index) (c .if1 .taken)
 
 read-task-requires : tie.Need-read-task-requires
 read-task-requires c κs =
     let a = c .before .before .before .before .before .before .before .args in
     let v = c .before .before .before .counts .given in
-    omega (arith, task-fits (now (a .s)) (countsIn (v .0 .0)) (rw (v .1) at (c .before .before .before .before .before .read-from .ensures)) (a .index) (c .if1 .left))
+    omega (arith, task-fits (now (a .s)) (taskCountsIn (v .0 .0)) (rw (v .1) at (c .before .before .before .before .before .read-from .ensures)) (a .index) (c .if1 .left))
 
 returns-2 : tie.Need-returns-2
 returns-2 c =
@@ -37,7 +37,7 @@ returns-3 c =
     let s = now (a .s) in
     let v = c .before .before .before .before .before .before .before .counts .given in
     let g = reads-told task s (6 + 32 * a .index) (ap taskStep (c .before .e2 .given .1)) (c .before .before .before .read-task .ensures) in
-    absurd (task-never s (countsIn (v .0 .0)) (rw (v .1) at (c .before .before .before .before .before .before .before .before .before .read-from .ensures)) (a .index) (c .before .before .before .before .if1 .left) _ g)
+    absurd (task-never s (taskCountsIn (v .0 .0)) (rw (v .1) at (c .before .before .before .before .before .before .before .before .before .read-from .ensures)) (a .index) (c .before .before .before .before .if1 .left) _ g)
 
 returns-4 : tie.Need-returns-4
 returns-4 c =
@@ -45,7 +45,7 @@ returns-4 c =
     let s = now (a .s) in
     let v = c .before .before .before .before .before .before .before .counts .given in
     let g = reads-told task s (6 + 32 * a .index) (ap taskStep (c .before .t .given .1)) (c .before .before .before .read-task .ensures) in
-    task-found s (countsIn (v .0 .0)) (rw (v .1) at (c .before .before .before .before .before .before .before .before .before .read-from .ensures)) (a .index) (c .before .before .before .before .if1 .left) _ _ (g .1)
+    task-found s (taskCountsIn (v .0 .0)) (rw (v .1) at (c .before .before .before .before .before .before .before .before .before .read-from .ensures)) (a .index) (c .before .before .before .before .if1 .left) _ _ (g .1)
 
 pub find-task-spec : {M : Type 1} → statement M
 find-task-spec =

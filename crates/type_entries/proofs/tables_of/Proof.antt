@@ -15,27 +15,27 @@ user-fb-table-requires c κs = let q = rw (c .before .arrays .given .1) at (c .b
 returns : tie.Need-returns
 returns c =
     let v = c .before .e .given in
-    (fb-types-stop (now (c .before .before .before .before .before .args .s)) (faultOf (v .0 .0)) (rw (v .1) at (c .before .before .before .fb-type-table .ensures)), tt)
+    fb-types-stop (now (c .before .before .before .before .before .args .s)) (faultOf (v .0 .0)) (rw (v .1) at (c .before .before .before .fb-type-table .ensures))
 
 returns-2 : tie.Need-returns-2
 returns-2 c =
     let v = c .before .e2 .given in
     let p = rw (c .before .before .before .before .before .fb-types .given .1) at (c .before .before .before .before .before .before .before .fb-type-table .ensures) in
-    (arrays-stop (now (c .before .before .before .before .before .before .before .before .before .args .s)) _ _ p (faultOf (v .0 .0)) (rw (v .1) at (c .before .before .before .array-table .ensures)), tt)
+    arrays-stop (now (c .before .before .before .before .before .before .before .before .before .args .s)) _ _ p (faultOf (v .0 .0)) (rw (v .1) at (c .before .before .before .array-table .ensures))
 
 returns-3 : tie.Need-returns-3
 returns-3 c =
     let v = c .before .e3 .given in
     let p = rw (c .before .before .before .before .before .before .before .before .before .fb-types .given .1) at (c .before .before .before .before .before .before .before .before .before .before .before .fb-type-table .ensures) in
     let q = rw (c .before .before .before .before .before .arrays .given .1) at (c .before .before .before .before .before .before .before .array-table .ensures) in
-    (user-fbs-stop (now (c .before .before .before .before .before .before .before .before .before .before .before .before .before .args .s)) _ _ p _ _ q (faultOf (v .0 .0)) (rw (v .1) at (c .before .before .before .user-fb-table .ensures)), tt)
+    user-fbs-stop (now (c .before .before .before .before .before .before .before .before .before .before .before .before .before .args .s)) _ _ p _ _ q (faultOf (v .0 .0)) (rw (v .1) at (c .before .before .before .user-fb-table .ensures))
 
 returns-4 : tie.Need-returns-4
 returns-4 c =
     let p = rw (c .before .before .before .before .before .before .before .before .before .fb-types .given .1) at (c .before .before .before .before .before .before .before .before .before .before .before .fb-type-table .ensures) in
     let q = rw (c .before .before .before .before .before .arrays .given .1) at (c .before .before .before .before .before .before .before .array-table .ensures) in
     let r = rw (c .before .user-fbs .given .1) at (c .before .before .before .user-fb-table .ensures) in
-    (tables-whole (now (c .before .before .before .before .before .before .before .before .before .before .before .before .before .args .s)) _ _ p _ _ q _ _ r, (p .small, q .small, r .small))
+    tables-whole (now (c .before .before .before .before .before .before .before .before .before .before .before .before .before .args .s)) _ _ p _ _ q _ _ r
 
 pub tables-of-spec : {M : Type 1} → statement M
 tables-of-spec =

@@ -13,7 +13,7 @@ use Rattle.type_entries.proofs.user_fb_table.Tie as tie
 returns : tie.Need-returns
 returns c =
     let a = c .before .before .args in
-    record { within = omega arith; entries = []; reads = users-none (now (a .s)) (a .at) (c .if1 .taken); place = refl; count = refl; small = omega arith }
+    record { within = omega arith; entries = []; reads = users-none (now (a .s)) (a .at) (c .if1 .taken); place = refl; count = refl }
 
 returns-2 : tie.Need-returns-2
 returns-2 c =
@@ -26,7 +26,7 @@ returns-3 c =
     let a = c .before .before .before .before .args in
     let n = c .before .u16-at in
     let p = users-whole (now (a .s)) (a .at) (n .result) (omega arith) (n .ensures) (c .if2 .left) in
-    record { within = omega arith; entries = p .0; reads = p .2; place = refl; count = sym (many-length userFb (n .result) _ (p .0) _ (p .1)); small = search needs }
+    record { within = omega arith; entries = p .0; reads = p .2; place = refl; count = sym (many-length userFb (n .result) _ (p .0) _ (p .1)) }
 
 pub user-fb-table-spec : {M : Type 1} → statement M
 user-fb-table-spec =

@@ -12,8 +12,8 @@ use Rattle.format.specs.Lookups.{fbTypeOf}
 use Rattle.base.specs.Error.{faultOf}
 use Rattle.base.specs.Section.{placeIn, partIn}
 use Rattle.base.proofs.FileLookups.{sliced, lookup-refused, lookup-found}
-use Rattle.type_section.specs.Lookups.{headOf}
-use Rattle.type_section.proofs.Finding.{refused-first, found-first}
+use Rattle.type_section.specs.Lookups.{fbTypeHeadOf}
+use Rattle.format.proofs.Answers.{refused-first, found-first}
 use borrow.Author.Needs.{needs}
 use Rattle.type_section.proofs.fb_type.Statement.{statement}
 use Rattle.type_section.proofs.fb_type.Tie as tie
@@ -40,7 +40,7 @@ returns-2 c =
     let s = sliced (now (a .file)) (partIn (v .0 .0)) in
     let w = c .before .e2 .given in
     lookup-found (now (a .file)) (placeIn (a .section)) typeTables (fbTypeOf (a .index)) (rw (v .1) at (c .before .before .before .before .before .before .before .before .before .section-part .ensures .0))
-    (refused-first (itemOf (typeTables s)) (λ t. indexed noEntry (t .fbTypes) (a .index)) (λ b. found (headOf b)) (faultOf (w .0 .0)) (rw (w .1) at (c .before .before .before .find-fb-type .ensures)))
+    (refused-first (itemOf (typeTables s)) (λ t. indexed noEntry (t .fbTypes) (a .index)) (λ t b. found (fbTypeHeadOf b)) (faultOf (w .0 .0)) (rw (w .1) at (c .before .before .before .find-fb-type .ensures)))
 
 returns-3 : tie.Need-returns-3
 returns-3 c =
@@ -51,7 +51,7 @@ returns-3 c =
     let x = rw (d .1) at (c .before .before .before .find-fb-type .ensures) in
     lookup-found (now (a .file)) (placeIn (a .section)) typeTables (fbTypeOf (a .index)) (rw (v .1) at (c .before .before .before .before .before .before .before .before .before .section-part .ensures .0))
     (ap (λ (n : ℕ). found (record { id = d .0 .0 .«type_id» .0; fieldCount = n })) (sym (x .count))
-    ∙ found-first (itemOf (typeTables s)) (λ t. indexed noEntry (t .fbTypes) (a .index)) (λ b. found (headOf b)) _ (x .is))
+    ∙ found-first (itemOf (typeTables s)) (λ t. indexed noEntry (t .fbTypes) (a .index)) (λ b. found (fbTypeHeadOf b)) _ (x .is))
 
 pub fb-type-spec : {M : Type 1} → statement M
 fb-type-spec =

@@ -10,9 +10,10 @@ use Rattle.reading.proofs.Passing.{reads-told}
 use Rattle.format.specs.Types.{array, typeTables}
 use Rattle.format.specs.Lookups.{arrayOf}
 use Rattle.base.specs.Error.{faultOf}
-use Rattle.type_entries.specs.Starts.{startsOf}
+use Rattle.type_entries.specs.Starts.{typeStartsOf}
 use Rattle.type_entries.specs.Answers.{arrayIn, arrayStep}
-use Rattle.type_section.proofs.Finding.{refused-then, array-fits, array-out, array-found}
+use Rattle.format.proofs.Answers.{refused-then}
+use Rattle.type_section.proofs.Finding.{array-fits, array-out, array-found}
 use borrow.Author.Needs.{needs}
 use Rattle.type_section.proofs.find_array.Statement.{statement}
 use Rattle.type_section.proofs.find_array.Tie as tie
@@ -21,14 +22,14 @@ returns : tie.Need-returns
 returns c =
     let a = c .before .before .before .before .before .before .args in
     let v = c .before .before .t .given in
-    array-out (now (a .s)) (v .0 .0) (rw (v .1) at (c .before .before .before .before .tables-of .ensures .0)) (a .index) (c .if1 .taken)
+    array-out (now (a .s)) (v .0 .0) (rw (v .1) at (c .before .before .before .before .tables-of .ensures)) (a .index) (c .if1 .taken)
 
 -- the entry lies in the section
 fits : (c : tie.Else1) → let t = c .before .before .t .given .0 .0 .arrays in t .at + 12 * c .before .before .before .before .before .before .args .index + 12 ≤ length (now (c .before .before .before .before .before .before .args .s))
 fits c =
     let a = c .before .before .before .before .before .before .args in
     let v = c .before .before .t .given in
-    array-fits (now (a .s)) (v .0 .0) (rw (v .1) at (c .before .before .before .before .tables-of .ensures .0)) (a .index) (c .if1 .left)
+    array-fits (now (a .s)) (v .0 .0) (rw (v .1) at (c .before .before .before .before .tables-of .ensures)) (a .index) (c .if1 .left)
 
 mul-read-array : tie.Need-mul-read-array
 mul-read-array c = omega (arith, fits c)
@@ -40,21 +41,21 @@ returns-2 : tie.Need-returns-2
 returns-2 c =
     let a = c .before .before .before .before .before .args in
     let v = c .before .e .given in
-    refused-then (itemOf (typeTables (now (a .s)))) startsOf (arrayOf (a .index)) (faultOf (v .0 .0)) (rw (v .1) at (c .before .before .before .tables-of .ensures .0))
+    refused-then (itemOf (typeTables (now (a .s)))) typeStartsOf (arrayOf (a .index)) (faultOf (v .0 .0)) (rw (v .1) at (c .before .before .before .tables-of .ensures))
 
 returns-3 : tie.Need-returns-3
 returns-3 c =
     let a = c .before .before .before .before .before .before .before .before .before .before .args in
     let v = c .before .before .before .before .before .before .t .given in
     let w = c .before .e2 .given in
-    array-found (now (a .s)) (v .0 .0) (rw (v .1) at (c .before .before .before .before .before .before .before .before .tables-of .ensures .0)) (a .index) (c .before .before .before .before .if1 .left) (stops (faultOf (w .0 .0))) (reads-told array (now (a .s)) (v .0 .0 .arrays .at + 12 * a .index) (ap arrayStep (w .1)) (c .before .before .before .read-array .ensures))
+    array-found (now (a .s)) (v .0 .0) (rw (v .1) at (c .before .before .before .before .before .before .before .before .tables-of .ensures)) (a .index) (c .before .before .before .before .if1 .left) (stops (faultOf (w .0 .0))) (reads-told array (now (a .s)) (v .0 .0 .arrays .at + 12 * a .index) (ap arrayStep (w .1)) (c .before .before .before .read-array .ensures))
 
 returns-4 : tie.Need-returns-4
 returns-4 c =
     let a = c .before .before .before .before .before .before .before .before .before .before .args in
     let v = c .before .before .before .before .before .before .t .given in
     let w = c .before .x .given in
-    array-found (now (a .s)) (v .0 .0) (rw (v .1) at (c .before .before .before .before .before .before .before .before .tables-of .ensures .0)) (a .index) (c .before .before .before .before .if1 .left) (item (arrayIn (w .0 .0)) (w .0 .1 .0)) (reads-told array (now (a .s)) (v .0 .0 .arrays .at + 12 * a .index) (ap arrayStep (w .1)) (c .before .before .before .read-array .ensures))
+    array-found (now (a .s)) (v .0 .0) (rw (v .1) at (c .before .before .before .before .before .before .before .before .tables-of .ensures)) (a .index) (c .before .before .before .before .if1 .left) (item (arrayIn (w .0 .0)) (w .0 .1 .0)) (reads-told array (now (a .s)) (v .0 .0 .arrays .at + 12 * a .index) (ap arrayStep (w .1)) (c .before .before .before .read-array .ensures))
 
 pub find-array-spec : {M : Type 1} → statement M
 find-array-spec =

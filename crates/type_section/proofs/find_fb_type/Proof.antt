@@ -9,9 +9,10 @@ use Rattle.reading.proofs.Passing.{goes-told}
 use Rattle.format.specs.Faults.{noEntry}
 use Rattle.format.specs.Types.{fbType, typeTables}
 use Rattle.base.specs.Error.{faultOf}
-use Rattle.type_entries.specs.Starts.{startsOf}
+use Rattle.type_entries.specs.Starts.{typeStartsOf}
 use Rattle.type_entries.proofs.Sizes.{fields-left}
-use Rattle.type_section.proofs.Finding.{refused-then, fields-hold, fb-types-within, fb-type-out, fb-type-passed, fb-type-reads, fb-type-found}
+use Rattle.format.proofs.Answers.{refused-then}
+use Rattle.type_section.proofs.Finding.{fields-hold, fb-types-within, fb-type-out, fb-type-passed, fb-type-reads, fb-type-found}
 use Rattle.base.specs.Section.{wayFrom}
 use borrow.Author.Needs.{needs}
 use Rattle.type_section.proofs.find_fb_type.Statement.{statement}
@@ -21,13 +22,13 @@ returns : tie.Need-returns
 returns c =
     let a = c .before .before .before .before .before .before .args in
     let v = c .before .before .t .given in
-    fb-type-out (now (a .s)) (v .0 .0) (rw (v .1) at (c .before .before .before .before .tables-of .ensures .0)) (a .index) (c .if1 .taken)
+    fb-type-out (now (a .s)) (v .0 .0) (rw (v .1) at (c .before .before .before .before .tables-of .ensures)) (a .index) (c .if1 .taken)
 
 skip-fb-types-requires : tie.Need-skip-fb-types-requires
 skip-fb-types-requires c κs =
     let a = c .before .before .before .before .before .before .args in
     let v = c .before .before .t .given in
-    fb-types-within (now (a .s)) (v .0 .0) (rw (v .1) at (c .before .before .before .before .tables-of .ensures .0)) (a .index)
+    fb-types-within (now (a .s)) (v .0 .0) (rw (v .1) at (c .before .before .before .before .tables-of .ensures)) (a .index)
 
 add-t19 : tie.Need-add-t19
 add-t19 c =
@@ -40,14 +41,14 @@ returns-2 : tie.Need-returns-2
 returns-2 c =
     let a = c .before .before .before .before .before .args in
     let v = c .before .e .given in
-    sym (refused-then (itemOf (typeTables (now (a .s)))) startsOf (λ t. indexed noEntry (t .fbTypes) (a .index)) (faultOf (v .0 .0)) (rw (v .1) at (c .before .before .before .tables-of .ensures .0)))
+    sym (refused-then (itemOf (typeTables (now (a .s)))) typeStartsOf (λ t. indexed noEntry (t .fbTypes) (a .index)) (faultOf (v .0 .0)) (rw (v .1) at (c .before .before .before .tables-of .ensures)))
 
 returns-3 : tie.Need-returns-3
 returns-3 c =
     let a = c .before .before .before .before .before .before .before .before .before .before .args in
     let v = c .before .before .before .before .before .before .t .given in
     let g = goes-told (many (a .index) fbType) (now (a .s)) (v .0 .0 .«fb_types» .at) (ap wayFrom (c .before .e2 .given .1)) (c .before .before .before .skip-fb-types .ensures) in
-    absurd (fb-type-passed (now (a .s)) (v .0 .0) (rw (v .1) at (c .before .before .before .before .before .before .before .before .tables-of .ensures .0)) (a .index) (c .before .before .before .before .if1 .left) _ g)
+    absurd (fb-type-passed (now (a .s)) (v .0 .0) (rw (v .1) at (c .before .before .before .before .before .before .before .before .tables-of .ensures)) (a .index) (c .before .before .before .before .if1 .left) _ g)
 
 returns-4 : tie.Need-returns-4
 returns-4 c =
@@ -55,7 +56,7 @@ returns-4 c =
     let v = c .before .before .before .before .before .before .before .before .before .before .t .given in
     let w = c .before .before .before .before .before .p .given in
     let g = goes-told (many (a .index) fbType) (now (a .s)) (v .0 .0 .«fb_types» .at) (ap wayFrom (w .1)) (c .before .before .before .before .before .before .before .skip-fb-types .ensures) in
-    absurd (fb-type-reads (now (a .s)) (v .0 .0) (rw (v .1) at (c .before .before .before .before .before .before .before .before .before .before .before .before .tables-of .ensures .0)) (a .index) (c .before .before .before .before .before .before .before .before .if1 .left) (w .0 .0) g _ (rw (c .before .e3 .given .1) at (c .before .before .before .read-fb-type .ensures)))
+    absurd (fb-type-reads (now (a .s)) (v .0 .0) (rw (v .1) at (c .before .before .before .before .before .before .before .before .before .before .before .before .tables-of .ensures)) (a .index) (c .before .before .before .before .before .before .before .before .if1 .left) (w .0 .0) g _ (rw (c .before .e3 .given .1) at (c .before .before .before .read-fb-type .ensures)))
 
 returns-5 : tie.Need-returns-5
 returns-5 c =
@@ -67,7 +68,7 @@ returns-5 c =
     record {
       fields = x .fields;
       count = x .count;
-      is = fb-type-found (now (a .s)) (v .0 .0) (rw (v .1) at (c .before .before .before .before .before .before .before .before .before .before .before .before .tables-of .ensures .0)) (a .index) (c .before .before .before .before .before .before .before .before .if1 .left) (w .0 .0) g _ _ (x .reads);
+      is = fb-type-found (now (a .s)) (v .0 .0) (rw (v .1) at (c .before .before .before .before .before .before .before .before .before .before .before .before .tables-of .ensures)) (a .index) (c .before .before .before .before .before .before .before .before .if1 .left) (w .0 .0) g _ _ (x .reads);
       holds = fields-hold (now (a .s)) (w .0 .0) _ _ _ (x .reads) (x .count);
     }
 

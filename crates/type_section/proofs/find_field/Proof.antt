@@ -13,7 +13,8 @@ use Rattle.format.specs.Types.{field, typeTables}
 use Rattle.base.specs.Error.{faultOf}
 use Rattle.type_entries.specs.Answers.{fieldIn, fieldStep}
 use Rattle.type_entries.proofs.Entries.{field-width}
-use Rattle.type_section.proofs.Finding.{refused-first, found-first, entry-found}
+use Rattle.format.proofs.Answers.{refused-first, found-first}
+use Rattle.type_section.proofs.Finding.{entry-found}
 use borrow.Author.Needs.{needs}
 use Rattle.type_section.proofs.find_field.Statement.{statement}
 use Rattle.type_section.proofs.find_field.Tie as tie
@@ -42,7 +43,7 @@ returns-2 : tie.Need-returns-2
 returns-2 c =
     let a = c .before .before .before .before .before .args in
     let v = c .before .e .given in
-    refused-first (itemOf (typeTables (now (a .s)))) (λ t. indexed noEntry (t .fbTypes) (a .index)) (λ b. indexed noEntry (b .fields) (a .field)) (faultOf (v .0 .0))
+    refused-first (itemOf (typeTables (now (a .s)))) (λ t. indexed noEntry (t .fbTypes) (a .index)) (λ t b. indexed noEntry (b .fields) (a .field)) (faultOf (v .0 .0))
     (rw (v .1) at (c .before .before .before .find-fb-type .ensures))
 
 returns-3 : tie.Need-returns-3

@@ -10,9 +10,10 @@ use Rattle.reading.proofs.Passing.{reads-told}
 use Rattle.format.specs.Types.{userFb, typeTables}
 use Rattle.format.specs.Lookups.{userFbOf}
 use Rattle.base.specs.Error.{faultOf}
-use Rattle.type_entries.specs.Starts.{startsOf}
+use Rattle.type_entries.specs.Starts.{typeStartsOf}
 use Rattle.type_entries.specs.Answers.{userFbIn, userFbStep}
-use Rattle.type_section.proofs.Finding.{refused-then, user-fb-fits, user-fb-out, user-fb-found}
+use Rattle.format.proofs.Answers.{refused-then}
+use Rattle.type_section.proofs.Finding.{user-fb-fits, user-fb-out, user-fb-found}
 use borrow.Author.Needs.{needs}
 use Rattle.type_section.proofs.find_user_fb.Statement.{statement}
 use Rattle.type_section.proofs.find_user_fb.Tie as tie
@@ -21,14 +22,14 @@ returns : tie.Need-returns
 returns c =
     let a = c .before .before .before .before .before .before .args in
     let v = c .before .before .t .given in
-    user-fb-out (now (a .s)) (v .0 .0) (rw (v .1) at (c .before .before .before .before .tables-of .ensures .0)) (a .index) (c .if1 .taken)
+    user-fb-out (now (a .s)) (v .0 .0) (rw (v .1) at (c .before .before .before .before .tables-of .ensures)) (a .index) (c .if1 .taken)
 
 -- the entry lies in the section
 fits : (c : tie.Else1) → let t = c .before .before .t .given .0 .0 .«user_fbs» in t .at + 8 * c .before .before .before .before .before .before .args .index + 8 ≤ length (now (c .before .before .before .before .before .before .args .s))
 fits c =
     let a = c .before .before .before .before .before .before .args in
     let v = c .before .before .t .given in
-    user-fb-fits (now (a .s)) (v .0 .0) (rw (v .1) at (c .before .before .before .before .tables-of .ensures .0)) (a .index) (c .if1 .left)
+    user-fb-fits (now (a .s)) (v .0 .0) (rw (v .1) at (c .before .before .before .before .tables-of .ensures)) (a .index) (c .if1 .left)
 
 mul-read-user-fb : tie.Need-mul-read-user-fb
 mul-read-user-fb c = omega (arith, fits c)
@@ -40,21 +41,21 @@ returns-2 : tie.Need-returns-2
 returns-2 c =
     let a = c .before .before .before .before .before .args in
     let v = c .before .e .given in
-    refused-then (itemOf (typeTables (now (a .s)))) startsOf (userFbOf (a .index)) (faultOf (v .0 .0)) (rw (v .1) at (c .before .before .before .tables-of .ensures .0))
+    refused-then (itemOf (typeTables (now (a .s)))) typeStartsOf (userFbOf (a .index)) (faultOf (v .0 .0)) (rw (v .1) at (c .before .before .before .tables-of .ensures))
 
 returns-3 : tie.Need-returns-3
 returns-3 c =
     let a = c .before .before .before .before .before .before .before .before .before .before .args in
     let v = c .before .before .before .before .before .before .t .given in
     let w = c .before .e2 .given in
-    user-fb-found (now (a .s)) (v .0 .0) (rw (v .1) at (c .before .before .before .before .before .before .before .before .tables-of .ensures .0)) (a .index) (c .before .before .before .before .if1 .left) (stops (faultOf (w .0 .0))) (reads-told userFb (now (a .s)) (v .0 .0 .«user_fbs» .at + 8 * a .index) (ap userFbStep (w .1)) (c .before .before .before .read-user-fb .ensures))
+    user-fb-found (now (a .s)) (v .0 .0) (rw (v .1) at (c .before .before .before .before .before .before .before .before .tables-of .ensures)) (a .index) (c .before .before .before .before .if1 .left) (stops (faultOf (w .0 .0))) (reads-told userFb (now (a .s)) (v .0 .0 .«user_fbs» .at + 8 * a .index) (ap userFbStep (w .1)) (c .before .before .before .read-user-fb .ensures))
 
 returns-4 : tie.Need-returns-4
 returns-4 c =
     let a = c .before .before .before .before .before .before .before .before .before .before .args in
     let v = c .before .before .before .before .before .before .t .given in
     let w = c .before .x .given in
-    user-fb-found (now (a .s)) (v .0 .0) (rw (v .1) at (c .before .before .before .before .before .before .before .before .tables-of .ensures .0)) (a .index) (c .before .before .before .before .if1 .left) (item (userFbIn (w .0 .0)) (w .0 .1 .0)) (reads-told userFb (now (a .s)) (v .0 .0 .«user_fbs» .at + 8 * a .index) (ap userFbStep (w .1)) (c .before .before .before .read-user-fb .ensures))
+    user-fb-found (now (a .s)) (v .0 .0) (rw (v .1) at (c .before .before .before .before .before .before .before .before .tables-of .ensures)) (a .index) (c .before .before .before .before .if1 .left) (item (userFbIn (w .0 .0)) (w .0 .1 .0)) (reads-told userFb (now (a .s)) (v .0 .0 .«user_fbs» .at + 8 * a .index) (ap userFbStep (w .1)) (c .before .before .before .read-user-fb .ensures))
 
 pub find-user-fb-spec : {M : Type 1} → statement M
 find-user-fb-spec =

@@ -5,7 +5,7 @@ use Prim.Native.Nat.{_+_, _≤_}
 use lib.ListN.{length}
 use Rattle.base.specs.Section.{placeIn}
 use Rattle.reading.specs.Answer.{found}
-use Rattle.type_entries.specs.Starts.{startsOf}
+use Rattle.type_entries.specs.Starts.{typeStartsOf}
 use Rattle.format.specs.Types.{typeTables}
 use Rattle.base.proofs.FileLookups.{lookup-refused, lookup-found}
 use borrow.Author.Needs.{needs}
@@ -25,12 +25,12 @@ part-tables-of-end c = omega (arith, ends c)
 returns : tie.Need-returns
 returns c =
     let a = c .before .before .before .before .before .args in
-    lookup-refused (now (a .file)) (placeIn (a .section)) typeTables (λ t. found (startsOf t)) (rw (c .before .e .given .1) at (c .before .before .before .section-part .ensures .0))
+    lookup-refused (now (a .file)) (placeIn (a .section)) typeTables (λ t. found (typeStartsOf t)) (rw (c .before .e .given .1) at (c .before .before .before .section-part .ensures .0))
 
 returns-2 : tie.Need-returns-2
 returns-2 c =
     let a = c .before .before .before .before .before .before .before .before .args in
-    lookup-found (now (a .file)) (placeIn (a .section)) typeTables (λ t. found (startsOf t)) (rw (c .before .before .before .before .p .given .1) at (c .before .before .before .before .before .before .section-part .ensures .0)) (c .tables-of .ensures .0)
+    lookup-found (now (a .file)) (placeIn (a .section)) typeTables (λ t. found (typeStartsOf t)) (rw (c .before .before .before .before .p .given .1) at (c .before .before .before .before .before .before .section-part .ensures .0)) (c .tables-of .ensures)
 
 pub tables-spec : {M : Type 1} → statement M
 tables-spec =

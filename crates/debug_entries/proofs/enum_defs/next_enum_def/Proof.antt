@@ -1,7 +1,8 @@
 -- `debug_entries::enum_defs::next_enum_def` meets its contract: the end, a place past the section's end, or what is read there.
 use mathlib.Core.Path.{ap, subst}
 use native.Mathlib.Omega.{arith}
-use Rattle.debug_text.proofs.Walks.{step-none, step-past, step-read}
+use Rattle.base.proofs.FileLookups.{step-ends}
+use Rattle.debug_text.proofs.Walks.{step-past, step-read}
 use Rattle.debug_entries.specs.Answers.{enumDefStep, StepHolds}
 use Rattle.debug_entries.proofs.Entries.{enum-needs}
 use borrow.Author.Needs.{needs}
@@ -9,7 +10,7 @@ use Rattle.debug_entries.proofs.enum_defs.next_enum_def.Statement.{stat
 use Rattle.debug_entries.proofs.enum_defs.next_enum_def.Tie as tie
 
 returns : tie.Need-returns
-returns c = (step-none _ _ _ (c .if1 .taken), tt)
+returns c = (step-ends _ _ _ (c .if1 .taken), tt)
 
 returns-2 : tie.Need-returns-2
 returns-2 c = (step-past _ _ _ _ (enum-needs _) (omega arith) (c .before .if1 .left) (c .if2 .taken), tt)

@@ -1,7 +1,8 @@
 -- `debug_entries::var_names::next_var_name` meets its contract: the end, a place past the section's end, or what is read there.
 use mathlib.Core.Path.{ap}
 use native.Mathlib.Omega.{arith}
-use Rattle.debug_text.proofs.Walks.{step-none, step-past, step-read}
+use Rattle.base.proofs.FileLookups.{step-ends}
+use Rattle.debug_text.proofs.Walks.{step-past, step-read}
 use Rattle.debug_entries.specs.Answers.{varNameStep}
 use Rattle.debug_entries.proofs.Entries.{var-needs}
 use borrow.Author.Needs.{needs}
@@ -9,7 +10,7 @@ use Rattle.debug_entries.proofs.var_names.next_var_name.Statement.{stat
 use Rattle.debug_entries.proofs.var_names.next_var_name.Tie as tie
 
 returns : tie.Need-returns
-returns c = step-none _ _ _ (c .if1 .taken)
+returns c = step-ends _ _ _ (c .if1 .taken)
 
 returns-2 : tie.Need-returns-2
 returns-2 c = step-past _ _ _ _ (var-needs _) (omega arith) (c .before .if1 .left) (c .if2 .taken)
