@@ -1,21 +1,26 @@
 // Document 01's unstarred cases, every row of its table of refusals with a small file that gives it, lookups over records that were not
-// read from that file, and the readings of unclear sentences (docs/DECISIONS.md, 1 to 21). The mill file M comes on standard input, and
-// behind it a file with all six debug tables; each case alters some of their bytes. In M tasks stand at 256, types at 310, constants at
-// 326, code at 342, debug at 363, their places in the header from 152 on.
+// read from that file, and the readings of unclear sentences (docs/DECISIONS.md, 1 to 21). The cases stand on standard input, one line to
+// a step, as its first lines say; what each prints is its name and the answer behind it.
 use libc::STDIN_FILENO;
 
-mod loads;
-mod lookups;
-mod records;
+mod answers;
+mod asked;
+mod files;
+mod lines;
 mod show;
+mod steps;
+
+// A byte more than the longest file, and more than the cases have.
+fn room() -> [u8; 65537] {
+    [0; 65537]
+}
 
 fn main() {
-    let mut mill = [0u8; 405];
-    io::read_full(STDIN_FILENO, &mut mill);
-    let mut tables = [0u8; 522];
-    io::read_full(STDIN_FILENO, &mut tables);
-    loads::all(mill);
-    lookups::all(mill);
-    lookups::debug(tables);
-    records::all(mill);
+    let mut cases = room();
+    let n = io::read_full(STDIN_FILENO, &mut cases);
+    let mut file = room();
+    let mut own = room();
+    if n <= 65537 {
+        steps::all(&cases[..n], &mut file, &mut own);
+    }
 }

@@ -1,5 +1,7 @@
 // What is printed of an answer: a case's name, and the answer behind it.
 use base::error::ContainerError;
+use blake3::HashAnswer;
+use container::Container;
 use container::ContainerAnswer;
 use container::MaybeDebug;
 use container::MaybeTypes;
@@ -66,22 +68,26 @@ fn debug(debug: MaybeDebug) {
     start(&line, n);
 }
 
+fn loaded(c: Container) {
+    word(b" loaded");
+    let has_types = c.types;
+    types(has_types);
+    let has_debug = c.debug;
+    debug(has_debug);
+}
+
 // How a file loads: its refusal, or which counts its types and debug have.
-pub fn load(case: &[u8], file: &[u8]) {
-    name(case);
+pub fn load(file: &[u8]) {
     match container::read_from(file) {
         ContainerAnswer::Refused(e) => refused(e),
-        ContainerAnswer::Container(c) => {
-            word(b" loaded");
-            let has_types = c.types;
-            types(has_types);
-            let has_debug = c.debug;
-            debug(has_debug);
-        }
+        ContainerAnswer::Container(c) => loaded(c),
     }
 }
 
-// The same of a file as long as M.
-pub fn mill(case: &[u8], file: [u8; 405]) {
-    load(case, &file);
+// The hash alone of some bytes: it is given, or refused.
+pub fn hash_alone(bytes: &[u8]) {
+    match blake3::hash(bytes) {
+        HashAnswer::Refused(e) => refused(e),
+        HashAnswer::Digest(_) => word(b" hashed\n"),
+    }
 }
