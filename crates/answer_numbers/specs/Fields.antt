@@ -5,7 +5,7 @@ use mathlib.Core.List.{List, [], _∷_}
 use lib.IntN.{ℤ, pos, negsuc}
 use Rattle.reading.specs.Fault.{Fault}
 use Rattle.reading.specs.Answer.{Got, refused, found}
-use Rattle.base.specs.Error.{numberOf, valuesOf}
+use Rattle.base.specs.Error.{refusalNumber, refusalValues}
 use Rattle.reading.specs.Numbers.{le, leAt}
 use Rattle.format.specs.Parts.{Place}
 use Rattle.format.specs.Tasks.{Task, Program}
@@ -16,7 +16,7 @@ use Rattle.format.specs.Debug.{Line, Variable, FunctionName, StringLayout, Sour
 use Rattle.format.specs.Lookups.{FbTypeHead, EnumerationHead}
 
 abbrev pub refusalNumbers : Fault → List ℕ
-refusalNumbers f = numberOf f ∷ valuesOf f
+refusalNumbers f = refusalNumber f ∷ refusalValues f
 
 -- an answer whose numbers `list` gives
 abbrev pub answered : {A : Type 0} → (A → List ℕ) → Got A → List ℕ

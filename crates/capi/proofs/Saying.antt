@@ -10,7 +10,7 @@ use Rattle.reading.specs.Fault.{Fault}
 use Rattle.reading.specs.Numbers.{bytesLe, wordBytes}
 use Rattle.reading.specs.Answer.{Got, refused, found}
 use Rattle.format.specs.Load.{Loaded}
-use Rattle.base.specs.Error.{numberOf, valuesOf}
+use Rattle.base.specs.Error.{refusalNumber, refusalValues}
 use Rattle.base.specs.Digest.{digestBytes}
 use Rattle.base.specs.declared.digest.Digest.{Digest}
 use Rattle.listing.specs.Lines.{valuesLine}
@@ -59,7 +59,7 @@ put-whole d w = put-all w
 pub told-none : (before : List ℕ) (g : Got (List ℕ)) → length before < 32 → Told before g before 255
 told-none before g h = record { told = λ large. absurd (omega arith); left = λ small. (refl, refl) }
 
-pub told-refused : {before : List ℕ} {g : Got (List ℕ)} {f : Fault} {n : ℕ} → g ≡ refused f → 32 ≤ length before → n ≡ numberOf f → Told before g before n
+pub told-refused : {before : List ℕ} {g : Got (List ℕ)} {f : Fault} {n : ℕ} → g ≡ refused f → 32 ≤ length before → n ≡ refusalNumber f → Told before g before n
 told-refused e h is = rw e (record { told = λ large. (is, refl); left = λ small. absurd (omega arith) })
 
 pub told-found : {before after d : List ℕ} {g : Got (List ℕ)} {r : ℕ} → g ≡ found d → 32 ≤ length before → (r ≡ 0) × (after ≡ d ++ drop 32 before) → Told before g after r
@@ -77,5 +77,5 @@ some-values n [] = omega arith
 some-values n (v ∷ vs) = omega arith
 
 pub some-text : (x : Got Loaded) → 0 < length (listingOf x)
-some-text (refused f) = some-values (numberOf f) (valuesOf f)
+some-text (refused f) = some-values (refusalNumber f) (refusalValues f)
 some-text (found l) = omega arith

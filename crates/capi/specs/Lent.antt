@@ -4,7 +4,7 @@ use mathlib.Core.List.{List, _++_}
 use mathlib.Core.Path.{_≡_}
 use lib.ListN.{length, drop}
 use Rattle.reading.specs.Answer.{Got, refused, found}
-use Rattle.base.specs.Error.{numberOf}
+use Rattle.base.specs.Error.{refusalNumber}
 use Rattle.text.specs.Text.{Wrote}
 
 -- Numbers. With room for 64 the buffer starts with them and r is how many; the rest is as it was. With less, r is 0 and the buffer is as it was
@@ -18,7 +18,7 @@ pub record Said (before ns after : List ℕ) (r : ℕ) : Type 0 where
 -- A digest of 32 bytes. A refusal answers its number and leaves the buffer as it was; else the answer is 0, the buffer starts with the digest, and
 -- the rest is as it was. With room for less than 32 bytes the answer is 255, which is no refusal's number, and the buffer is as it was
 abbrev pub digestNumber : Got (List ℕ) → ℕ
-digestNumber (refused f) = numberOf f
+digestNumber (refused f) = refusalNumber f
 digestNumber (found d) = 0
 
 abbrev pub digestPut : Got (List ℕ) → List ℕ → List ℕ
