@@ -6,7 +6,7 @@ ghost use lib.ListN.{length};
 ghost use Rattle.debug_tables.specs.Answers.{maybeDebug};
 ghost use Rattle.header.specs.Answers.{headerIn, directoryIn, runtimeIn};
 ghost use Rattle.record.specs.Answers.{maybeTypes, containerIn};
-ghost use Rattle.task_table.specs.Answers.{countsIn};
+ghost use Rattle.task_table.specs.Answers.{taskCountsIn};
 ghost use Rattle.text.specs.Text.{Wrote};
 ghost use Rattle.capi.specs.Loaded.{headNumbers, directoryNumbers, runtimeNumbers, taskCountNumbers, typeCountNumbers, debugCountNumbers, headerNumbers, recordNumbers};
 ghost use Rattle.capi.specs.Lent.{room};
@@ -66,7 +66,7 @@ fn runtime(r: RuntimeParameters) -> [u64; 11]
 }
 
 fn task_counts(t: TaskCounts) -> [u64; 3]
-    ensures { λ r. ⌜ r ≡ taskCountNumbers (countsIn t) ⌝ }
+    ensures { λ r. ⌜ r ≡ taskCountNumbers (taskCountsIn t) ⌝ }
 {
     [
         t.tasks as u64,

@@ -1,5 +1,5 @@
 -- Each entry at a place of the section: what each test of the code says of it. Numbers are given as the code has read them.
-use mathlib.Core.Path.{_≡_, refl, sym, ap, _∙_}
+use mathlib.Core.Path.{_≡_, refl}
 use mathlib.Core.List.{List}
 use Prim.Native.Nat.{ℕ, _+_, _-_, _≤_, _<_}
 use native.Mathlib.Omega.{arith}
@@ -7,19 +7,17 @@ use lib.ListN.{length, take, drop, length-drop}
 use Rattle.reading.specs.Fault.{Fault, shortInput}
 use Rattle.reading.specs.Numbers.{leAt}
 use Rattle.reading.specs.Reader.{fault, got, Reader, next, _>>=_, give, many}
-use Rattle.reading.specs.Answer.{Got, indexed, _>>=_ as _then_}
-use Rattle.reading.specs.Places.{Step, stops, item, Reads, onTo, Goes, Holds}
+use Rattle.reading.specs.Places.{Step, stops, item, Reads, Way, onTo, Goes}
 use Rattle.reading.proofs.Reading.{bytes-at, bytes-short, number-at}
 use Rattle.reading.proofs.Width.{Needs, needs-bind, needs-none, Fixed, fixed-bind, fixed-give, fixed-number}
+use Rattle.reading.proofs.Tables.{many-length}
 use Rattle.reading.proofs.Passing.{reads-told, counted-short, counted-as}
-use Rattle.format.specs.Faults.{noEntry}
-use Rattle.format.specs.Parts.{Keep}
-use Rattle.format.specs.Debug.{name, path, Variable, variable, functionName, stringLayout, sourceFile, Enumeration, enumeration}
-use Rattle.debug_text.specs.Picked.{picked}
-use Rattle.debug_text.proofs.Texts.{name-needs, path-needs}
-use Rattle.debug_text.proofs.Walks.{onStep, reads-stop, reads-on}
-use Rattle.debug_entries.specs.Answers.{itemsOf}
-use Rattle.debug_entries.specs.Lookups.{pickedValue}
+use Rattle.format.specs.Parts.{Place, Keep}
+use Rattle.format.specs.Debug.{name, path, Variable, variable, functionName, stringLayout, sourceFile, enumeration}
+use Rattle.debug_text.specs.Answers.{keepIn}
+use Rattle.debug_text.proofs.Texts.{name-needs, path-needs, name-ends}
+use Rattle.debug_text.proofs.Walks.{onStep, reads-stop, reads-on, goes-made}
+use Rattle.debug_entries.specs.Answers.{EnumerationEntry, entryOf, enumerationEntry}
 
 -- What an entry needs to be there
 
@@ -40,9 +38,9 @@ module _ {T : Type 0} (keep : Keep T) where
   unfolding sourceFile
   file-needs s h = rw (path-needs keep s h)
 
-  pub enum-needs : Needs 1 (enumeration keep)
-  unfolding enumeration
-  enum-needs s h = rw (name-needs keep s h)
+pub enum-needs : (base : ℕ) (keep : Keep Place) → Needs 1 (enumerationEntry base keep)
+unfolding enumeration
+enum-needs base keep s h = rw (name-needs keep s h)
 
 pub layout-fixed : Fixed 8 stringLayout
 unfolding stringLayout
@@ -116,32 +114,38 @@ module _ {T : Type 0} (keep : Keep T) (s : List ℕ) (at : ℕ) where
         → Reads (variable keep) s at (onStep (λ y. record { index = i; function = f; section = c; typeTag = t; named = x; typeName = y }) w)
     var-read x p d k e g = reads-on (variable keep) s at (name keep) p _ (rw (var-at, reads-told (name keep) s (at + 6) d k .1)) e g
 
-  -- an enumeration's name, its count, and the values' names
-  pub enum-stop : (f : Fault) {v : Step T} → v ≡ stops f → Reads (name keep) s at v → enumeration keep (drop at s) ≡ fault f
-  unfolding enumeration
-  enum-stop f e g = rw (reads-told (name keep) s at e g)
+-- an enumeration's name, its count, and the values' names
+module _ (base : ℕ) (s : List ℕ) (at : ℕ) where
+  abbrev named : Reader Place
+  named = name (keepIn base s)
 
-  module _ (x : T) (p : ℕ) {v : Step T} (e : v ≡ item x p) (g : Reads (name keep) s at v) where
-    pub enum-short : length s - p < 2 → enumeration keep (drop at s) ≡ fault shortInput
+  abbrev entries : Reader EnumerationEntry
+  entries = enumerationEntry base (keepIn base s)
+
+  pub enum-stop : (f : Fault) {v : Step Place} → v ≡ stops f → Reads named s at v → entries (drop at s) ≡ fault f
+  unfolding enumeration
+  enum-stop f e g = rw (reads-told named s at e g)
+
+  module _ (x : Place) (p : ℕ) {v : Step Place} (e : v ≡ item x p) (g : Reads named s at v) where
+    pub enum-short : length s - p < 2 → entries (drop at s) ≡ fault shortInput
     unfolding enumeration
-    enum-short h = rw (reads-told (name keep) s at e g .1, counted-short (name keep) s p h)
+    enum-short h = rw (reads-told named s at e g .1, counted-short named s p h)
 
     module _ (n : ℕ) (h : p + 2 ≤ length s) (i : n ≡ leAt 2 s p) where
-      pub enum-fault : (f : Fault) → many n (name keep) (drop (p + 2) s) ≡ fault f → enumeration keep (drop at s) ≡ fault f
+      pub enum-fault : (f : Fault) → many n named (drop (p + 2) s) ≡ fault f → entries (drop at s) ≡ fault f
       unfolding enumeration
-      enum-fault f k = rw (reads-told (name keep) s at e g .1, counted-as (name keep) s p n h i, k)
+      enum-fault f k = rw (reads-told named s at e g .1, counted-as named s p n h i, k)
 
-      abbrev pub values : List T
-      values = itemsOf (many n (name keep) (drop (p + 2) s))
-
-      pub enum-read : (m : ℕ) → Goes (many n (name keep)) s (p + 2) (onTo m)
-          → Reads (enumeration keep) s at (item (record { named = x; values = values }) m) × Holds (name keep) s (record { at = p + 2; count = n }) values
+      -- the values' names stand behind the name and the count
+      pub enum-read : (m : ℕ) → Goes (many n named) s (p + 2) (onTo m)
+          → Reads entries s at (item (record { head = record { named = x; valueCount = n }; values = record { at = p + 2; count = n } }) m)
       unfolding enumeration
       enum-read m k =
-          let z = k .1 .1 ∙ ap (λ y. got (itemsOf y) (drop m s)) (sym (k .1 .1)) in
-          ((k .0, rw (reads-told (name keep) s at e g .1, counted-as (name keep) s p n h i, z)), record { within = h; rest = drop m s; reads = z })
+          let l = many-length named n (drop (p + 2) s) (k .1 .0) (drop m s) (k .1 .1) in
+          let b = name-ends base s at x p (reads-told named s at e g) in
+          let z : x .offset + x .size + 2 - base ≡ p + 2 = omega arith in
+          (k .0, rw (reads-told named s at e g .1, counted-as named s p n h i, k .1 .1, l, z))
 
--- the value of an enumeration that a lookup gave
-pub values-then : {T : Type 0} (keep : Keep T) (s : List ℕ) (at n k j : ℕ) {g : Got (Enumeration T)} → g ≡ picked (enumeration keep) s at n k
-    → (g then λ e. indexed noEntry (e .values) j) ≡ pickedValue keep s at n k j
-values-then keep s at n k j h = ap (λ g. g then λ e. indexed noEntry (e .values) j) h
+-- a walk over enumerations is one over their entries
+pub enum-goes : (base : ℕ) (s : List ℕ) (n at : ℕ) (w : Way) → Goes (many n (enumeration (keepIn base s))) s at w → Goes (many n (enumerationEntry base (keepIn base s))) s at w
+enum-goes base s n at w g = goes-made (entryOf base) (enumeration (keepIn base s)) s n at w g

@@ -9,20 +9,24 @@ use lib.Dec.{eqb, ltb}
 use lib.ListN.{length, drop, length-drop}
 use Rattle.utf8.specs.Utf8.{goodLength, utf8}
 use Rattle.reading.specs.Fault.{badText}
-use Rattle.reading.specs.Reader.{Read, fault, got, Reader, next, _>>=_, give, check, bytes, number, many}
+use Rattle.reading.specs.Reader.{Read, fault, got, Reader, next, _>>=_, give, check, bytes, number, many, counted}
 use Rattle.reading.specs.Answer.{refused, found, itemOf, indexed}
-use Rattle.reading.specs.Places.{ends, entry, nextOf, stepOf}
+use Rattle.reading.specs.Places.{ends, entry, nextOf, stepOf, Holds}
 use Rattle.reading.specs.declared.Table.{Table}
 use Rattle.reading.proofs.Reading.{both, bytes-length}
 use Rattle.reading.proofs.Width.{fixed-bytes, fixed-width}
-use Rattle.reading.proofs.Local.{Local, local-check, local-bytes, local-number}
-use Rattle.reading.proofs.Left.{LeftOf, left-at, Stays, stays-local, walk-is-table}
+use Rattle.reading.proofs.Local.{Local, local-give, local-check, local-bytes, local-number}
+use Rattle.reading.proofs.Left.{LeftOf, left-at, Stays, stays-local, stays-bind, walk-is-table}
+use Rattle.reading.proofs.Tables.{counted-stands}
 use Rattle.format.specs.Faults.{noEntry}
-use Rattle.format.specs.Debug.{text, name, path, variable, functionName, sourceFile, enumeration}
+use Rattle.format.specs.Parts.{Place}
+use Rattle.format.specs.Debug.{text, name, path, variable, functionName, sourceFile, Enumeration, enumeration}
 use Rattle.format.proofs.Readers.{local-stringLayout}
 use Rattle.debug_text.specs.Answers.{keepIn}
 use Rattle.debug_text.specs.Picked.{picked}
+use Rattle.debug_text.proofs.Texts.{name-ends}
 use Rattle.debug_text.proofs.Walks.{picked-is}
+use Rattle.debug_entries.specs.Answers.{entryOf, enumerationEntry}
 use Rattle.debug_entries.specs.Laws.{Lies, Walkable, VariableLies, FunctionLies, FileLies, EnumerationLies, Laws}
 
 module _ (whole : List ℕ) where
@@ -105,11 +109,38 @@ module _ (whole : List ℕ) where
     gives-file =
         gives-bind (gives-bind (gives-number 2) (λ n u. gives-text n)) λ l p. gives-bind (gives-local (local-bytes 32)) λ h u. gives-give (FileLies base whole) _ p
 
-    gives-enumeration : Gives (EnumerationLies base whole) (enumeration (keepIn base whole))
+    -- an enumeration's names lie in the section
+    abbrev NamesLie : Enumeration Place → Type 0
+    NamesLie e = Lies base whole (e .named) × Each (Lies base whole) (e .values)
+
+    gives-names : Gives NamesLie (enumeration (keepIn base whole))
     unfolding enumeration
+    gives-names = gives-bind gives-name λ n p. gives-bind (gives-bind (gives-number 2) (λ k u. gives-many k gives-name)) λ vs ps. gives-give NamesLie _ (p, ps)
+
+    -- and those of its values stand behind its name and their count
+    values-stand : (x : List ℕ) (e : Enumeration Place) (t : List ℕ) → LeftOf whole x → enumeration (keepIn base whole) x ≡ got e t
+        → Holds (name (keepIn base whole)) whole (entryOf base e .values) (e .values)
+    unfolding enumeration
+    values-stand x e t w h =
+        let r = name (keepIn base whole) in
+        let g = subst (λ (y : List ℕ). enumeration (keepIn base whole) y ≡ got e t) (w .is) h in
+        let p = both (r (drop (w .behind) whole)) g in
+        let m = gives-name .leaves (drop (w .behind) whole) (p .item) (p .middle) (record { behind = w .behind; most = w .most; is = refl }) (p .first) .1 in
+        let q = both (counted r (p .middle)) (p .second) in
+        let c = subst (λ (y : List ℕ). counted r y ≡ got (q .item) (q .middle)) (m .is) (q .first) in
+        let stands = counted-stands r whole (m .behind) (q .item) (q .middle) (m .most) c in
+        let b = name-ends base whole (w .behind) (p .item) (m .behind) (m .most, p .first ∙ ap (got (p .item)) (m .is)) in
+        let z : record { named = p .item; values = q .item } ≡ e = cc in
+        subst (λ (v : Enumeration Place). Holds r whole (entryOf base v .values) (v .values)) z
+        (subst (λ (at : ℕ). Holds r whole (record { at = at; count = length (q .item) }) (q .item)) (omega arith) stands)
+
+    gives-enumeration : Gives (EnumerationLies base whole) (enumeration (keepIn base whole))
     gives-enumeration =
-        gives-bind gives-name λ n p.
-        gives-bind (gives-bind (gives-number 2) (λ k u. gives-many k gives-name)) λ vs ps. gives-give (EnumerationLies base whole) _ (p, ps)
+        record {
+          leaves = λ x e t w h.
+              let k = gives-names .leaves x e t w h in
+              ((k .0 .0, k .0 .1, values-stand x e t w h), k .1);
+        }
 
   module _ {A : Type 0} (P : A → Type 0) (r : Reader A) (h : Gives P r) where
     found-in : (x : List ℕ) (a : A) → LeftOf whole x → (y : Read A) → r x ≡ y → itemOf y ≡ found a → P a
@@ -143,12 +174,10 @@ module _ (whole : List ℕ) where
           step-is = step-in;
         }
 
--- what these leave of the section is left of it
-pub stays-name : (base : ℕ) (s : List ℕ) → Stays s (name (keepIn base s))
-stays-name base s = record { leaves = λ x a t w e. gives-name s base .leaves x a t w e .1 }
-
-pub stays-enumeration : (base : ℕ) (s : List ℕ) → Stays s (enumeration (keepIn base s))
-stays-enumeration base s = record { leaves = λ x a t w e. gives-enumeration s base .leaves x a t w e .1 }
+-- an enumeration read for its head and the table of its values leaves what is left of the section
+pub stays-entry : (base : ℕ) (s : List ℕ) → Stays s (enumerationEntry base (keepIn base s))
+stays-entry base s =
+    stays-bind s (record { leaves = λ x e t w h. gives-enumeration s base .leaves x e t w h .1 }) (λ e. stays-local s (local-give (entryOf base e)))
 
 pub laws : Laws
 laws =

@@ -1,18 +1,17 @@
 -- What the code's answers mean.
-use Prim.Native.Nat.{ℕ, _+_}
-use mathlib.Core.List.{List, []}
-use mathlib.Core.Path.{_≡_}
-use Rattle.reading.specs.Fault.{Fault}
+use Prim.Native.Nat.{ℕ, _+_, _-_}
+use lib.ListN.{length}
 use Rattle.reading.specs.Answer.{Got, refused, found}
-use Rattle.reading.specs.Places.{Step, stops, item, leftOf, Holds, Next, ends, faulty, entry}
-use Rattle.reading.specs.Reader.{Read, fault, got}
+use Rattle.reading.specs.Places.{Step, stops, item, Next, ends, faulty, entry}
+use Rattle.reading.specs.Reader.{Reader, _>>=_, give}
 use Rattle.reading.specs.declared.Table.{Table}
 use Rattle.format.specs.Faults.{noEntry}
-use Rattle.format.specs.Debug.{name, Variable, FunctionName, StringLayout, SourceFile, Enumeration}
-use Rattle.format.specs.Parts.{Place}
+use Rattle.format.specs.Debug.{Variable, FunctionName, StringLayout, SourceFile, Enumeration, enumeration}
+use Rattle.format.specs.Parts.{Place, Keep}
+use Rattle.format.specs.Lookups.{EnumerationHead}
 use Rattle.base.specs.Digest.{digestBytes}
 use Rattle.base.specs.Section.{partIn}
-use Rattle.debug_text.specs.Answers.{keepIn, debugFaultOf}
+use Rattle.debug_text.specs.Answers.{debugFaultOf}
 use Rattle.debug_entries.specs.declared.var_names.VarNameEntry.{VarNameEntry}
 use Rattle.debug_entries.specs.declared.var_names.VarNameStep.{VarNameStep}
 use Rattle.debug_entries.specs.declared.var_names.VarNameStep.the-variants as stepVar
@@ -138,49 +137,38 @@ sourceFileNext nextFile.End = ends
 sourceFileNext (nextFile.Fault e) = faulty (debugFaultOf e)
 sourceFileNext (nextFile.Entry v t) = entry (sourceFileIn v) t
 
--- Enumerations
+-- Enumerations: an answer has the head, which is the name and how many values there are, and the table of the values' names
 
--- the entries that were read; none where the table does not read
-abbrev pub itemsOf : {A : Type 0} → Read (List A) → List A
-itemsOf (got xs rest) = xs
-itemsOf (fault f) = []
+pub record EnumerationEntry : Type 0 where
+  pub head : EnumerationHead Place
+  pub values : Table
 
--- the value names of a table of the section
-abbrev pub valuesIn : ℕ → List ℕ → Table → List Place
-valuesIn base s t = itemsOf (leftOf (name (keepIn base s)) s t)
+-- the values' names stand behind the enumeration's name and a count of two bytes, in a section at `base` of the file
+abbrev pub withValues : ℕ → EnumerationHead Place → EnumerationEntry
+withValues base h = record { head = h; values = record { at = h .named .offset + h .named .size + 2 - base; count = h .valueCount } }
 
-abbrev pub enumDefIn : ℕ → List ℕ → EnumDefEntry → Enumeration Place
-enumDefIn base s v = record { named = partIn (v .«type_name»); values = valuesIn base s (v .values) }
+abbrev pub entryOf : ℕ → Enumeration Place → EnumerationEntry
+entryOf base e = withValues base (record { named = e .named; valueCount = length (e .values) })
 
-abbrev pub enumDefStep : ℕ → List ℕ → EnumDefStep → Step (Enumeration Place)
-enumDefStep base s (stepEnum.Fault e) = stops (debugFaultOf e)
-enumDefStep base s (stepEnum.Entry v m) = item (enumDefIn base s v) m
+-- an enumeration read for that
+abbrev pub enumerationEntry : ℕ → Keep Place → Reader EnumerationEntry
+enumerationEntry base keep = do
+  e ← enumeration keep
+  give (entryOf base e)
 
-abbrev pub enumDefFrom : ℕ → List ℕ → EnumDefAnswer → Got (Enumeration Place)
-enumDefFrom base s (answerEnum.Fault e) = refused (debugFaultOf e)
-enumDefFrom base s answerEnum.NoEntry = refused noEntry
-enumDefFrom base s (answerEnum.Entry v) = found (enumDefIn base s v)
+abbrev pub enumDefIn : EnumDefEntry → EnumerationEntry
+enumDefIn v = record { head = record { named = partIn (v .«type_name»); valueCount = v .values .count }; values = v .values }
 
-abbrev pub enumDefNext : ℕ → List ℕ → EnumDefNext → Next (Enumeration Place)
-enumDefNext base s nextEnum.End = ends
-enumDefNext base s (nextEnum.Fault e) = faulty (debugFaultOf e)
-enumDefNext base s (nextEnum.Entry v t) = entry (enumDefIn base s v) t
+abbrev pub enumDefStep : EnumDefStep → Step EnumerationEntry
+enumDefStep (stepEnum.Fault e) = stops (debugFaultOf e)
+enumDefStep (stepEnum.Entry v m) = item (enumDefIn v) m
 
--- the table of values of an enumeration that is answered reads; it stands behind the type's name and a count of two bytes
-pub record ValuesHold (base : ℕ) (s : List ℕ) (v : EnumDefEntry) : Type 0 where
-  pub table : Holds (name (keepIn base s)) s (v .values) (valuesIn base s (v .values))
-  pub place : base + v .values .at ≡ v .«type_name» .offset + v .«type_name» .size + 2
+abbrev pub enumDefFrom : EnumDefAnswer → Got EnumerationEntry
+enumDefFrom (answerEnum.Fault e) = refused (debugFaultOf e)
+enumDefFrom answerEnum.NoEntry = refused noEntry
+enumDefFrom (answerEnum.Entry v) = found (enumDefIn v)
 
-abbrev pub StepHolds : ℕ → List ℕ → EnumDefStep → Type 0
-StepHolds base s (stepEnum.Fault e) = Unit {0}
-StepHolds base s (stepEnum.Entry v m) = ValuesHold base s v
-
-abbrev pub AnswerHolds : ℕ → List ℕ → EnumDefAnswer → Type 0
-AnswerHolds base s (answerEnum.Fault e) = Unit {0}
-AnswerHolds base s answerEnum.NoEntry = Unit {0}
-AnswerHolds base s (answerEnum.Entry v) = ValuesHold base s v
-
-abbrev pub NextHolds : ℕ → List ℕ → EnumDefNext → Type 0
-NextHolds base s nextEnum.End = Unit {0}
-NextHolds base s (nextEnum.Fault e) = Unit {0}
-NextHolds base s (nextEnum.Entry v t) = ValuesHold base s v
+abbrev pub enumDefNext : EnumDefNext → Next EnumerationEntry
+enumDefNext nextEnum.End = ends
+enumDefNext (nextEnum.Fault e) = faulty (debugFaultOf e)
+enumDefNext (nextEnum.Entry v t) = entry (enumDefIn v) t

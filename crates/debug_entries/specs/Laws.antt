@@ -6,13 +6,14 @@ use mathlib.Core.List.{List}
 use lib.ListN.{length}
 use Rattle.reading.specs.Reader.{Reader, got}
 use Rattle.reading.specs.Answer.{found, itemOf, indexed}
-use Rattle.reading.specs.Places.{leftOf, entry, stepOf, walked}
+use Rattle.reading.specs.Places.{leftOf, Holds, entry, stepOf, walked}
 use Rattle.reading.specs.declared.Table.{Table}
 use Rattle.format.specs.Faults.{noEntry}
 use Rattle.format.specs.Parts.{Place}
 use Rattle.format.specs.Debug.{name, Variable, variable, FunctionName, functionName, stringLayout, SourceFile, sourceFile, Enumeration, enumeration}
 use Rattle.debug_text.specs.Answers.{keepIn}
 use Rattle.debug_text.specs.Picked.{picked}
+use Rattle.debug_entries.specs.Answers.{entryOf}
 
 -- a part of the file that lies in the section
 pub record Lies (base : ℕ) (s : List ℕ) (p : Place) : Type 0 where
@@ -36,8 +37,11 @@ module _ (base : ℕ) (s : List ℕ) where
   abbrev pub FileLies : SourceFile Place → Type 0
   FileLies f = Lies base s (f .located)
 
+  -- and the table of its values' names is where `entryOf` says
   abbrev pub EnumerationLies : Enumeration Place → Type 0
-  EnumerationLies e = Lies base s (e .named) × ((j : ℕ) (p : Place) → indexed noEntry (e .values) j ≡ found p → Lies base s p)
+  EnumerationLies e =
+      Lies base s (e .named) × ((j : ℕ) (p : Place) → indexed noEntry (e .values) j ≡ found p → Lies base s p)
+      × Holds (name (keepIn base s)) s (entryOf base e .values) (e .values)
 
 pub record Laws : Type 0 where
   pub names : (base : ℕ) (s : List ℕ) → Walkable (Lies base s) (name (keepIn base s)) s

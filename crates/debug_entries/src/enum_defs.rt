@@ -17,7 +17,7 @@ ghost use Rattle.reading.specs.Places.{Reads, Goes, stepOf};
 ghost use Rattle.format.specs.Debug.{enumeration};
 ghost use Rattle.debug_text.specs.Answers.{InFile, keepIn, wayOf, nameFrom};
 ghost use Rattle.debug_text.specs.Picked.{picked};
-ghost use Rattle.debug_entries.specs.Answers.{enumDefStep, StepHolds, enumDefFrom, AnswerHolds, enumDefNext, NextHolds};
+ghost use Rattle.debug_entries.specs.Answers.{enumerationEntry, enumDefStep, enumDefFrom, enumDefNext};
 ghost use Rattle.debug_entries.specs.Lookups.{pickedValue};
 
 // The type's name, and the table of the values' names: the place in the section of the first, and how many there are.
@@ -49,7 +49,7 @@ pub enum EnumDefNext {
 // The entry at `at`.
 pub fn read_enum_def(s: &[u8], base: usize, at: usize) -> EnumDefStep
     requires { ⌜ (at ≤ length (now s)) × InFile base (now s) ⌝ }
-    ensures { λ r. ⌜ Reads (enumeration (keepIn base (now (s .entry)))) (now (s .entry)) at (enumDefStep base (now (s .entry)) r) × StepHolds base (now (s .entry)) r ⌝ }
+    ensures { λ r. ⌜ Reads (enumerationEntry base (keepIn base (now (s .entry)))) (now (s .entry)) at (enumDefStep r) ⌝ }
 {
     match read_name(s, base, at) {
         TextStep::Fault(e) => EnumDefStep::Fault(e),
@@ -97,7 +97,7 @@ pub fn skip_enum_defs(s: &[u8], base: usize, at: usize, n: usize) -> DebugWalk
 // The entry of index `k` of the `n` entries from `at` on.
 pub fn find_enum_def(s: &[u8], base: usize, at: usize, n: usize, k: usize) -> EnumDefAnswer
     requires { ⌜ InFile base (now s) ⌝ }
-    ensures { λ r. ⌜ (enumDefFrom base (now (s .entry)) r ≡ picked (enumeration (keepIn base (now (s .entry)))) (now (s .entry)) at n k) × AnswerHolds base (now (s .entry)) r ⌝ }
+    ensures { λ r. ⌜ enumDefFrom r ≡ picked (enumerationEntry base (keepIn base (now (s .entry)))) (now (s .entry)) at n k ⌝ }
 {
     if n <= k {
         return EnumDefAnswer::NoEntry;
@@ -132,7 +132,7 @@ pub fn find_enum_value(s: &[u8], base: usize, at: usize, n: usize, k: usize, j: 
 // The next entry of a walk.
 pub fn next_enum_def(s: &[u8], base: usize, t: Table) -> EnumDefNext
     requires { ⌜ InFile base (now s) ⌝ }
-    ensures { λ r. ⌜ (enumDefNext base (now (s .entry)) r ≡ stepOf (enumeration (keepIn base (now (s .entry)))) (now (s .entry)) t) × NextHolds base (now (s .entry)) r ⌝ }
+    ensures { λ r. ⌜ enumDefNext r ≡ stepOf (enumerationEntry base (keepIn base (now (s .entry)))) (now (s .entry)) t ⌝ }
 {
     let at = t.at;
     let count = t.count;

@@ -1,18 +1,20 @@
 -- Lookups over the file, from those over the section's bytes.
 use mathlib.Core.Path.{_≡_, refl, sym, ap, _∙_}
-use mathlib.Core.List.{List, [], _∷_}
-use Prim.Native.Nat.{ℕ, zero, suc, _+_, _-_}
+use mathlib.Core.List.{List, [], _∷_, map}
+use Prim.Native.Nat.{ℕ, zero, suc}
 use native.Mathlib.Omega.{arith}
-use lib.ListN.{drop}
+use lib.ListN.{length}
 use Rattle.reading.specs.Fault.{Fault}
 use Rattle.reading.specs.Reader.{Reader}
 use Rattle.reading.specs.Answer.{Got, refused, found, _>>=_, indexed, itemOf}
 use Rattle.reading.specs.Places.{entry, Holds}
 use Rattle.reading.specs.declared.Table.{Table}
-use Rattle.reading.proofs.Tables.{many-length}
 use Rattle.format.specs.Faults.{noEntry}
 use Rattle.format.specs.Parts.{Place, cut, Inside, Keep, byPlace}
-use Rattle.format.specs.Debug.{Line, name, Enumeration, enumeration, Tables}
+use Rattle.format.specs.Debug.{Line, Enumeration, enumeration, Tables}
+use Rattle.format.specs.Lookups.{enumerationOf}
+use Rattle.format.proofs.Answers.{renamed}
+use Rattle.format.proofs.PlacesHold.{indexed-map}
 use Rattle.base.specs.Error.{refusalNumber}
 use Rattle.base.proofs.FileLookups.{sliced, slice-is}
 use Rattle.line_map.specs.Lookups.{inLines}
@@ -20,13 +22,11 @@ use Rattle.debug_text.specs.Answers.{keepIn, debugFaultOf}
 use Rattle.debug_text.specs.Picked.{picked}
 use Rattle.debug_text.specs.declared.DebugFault.{DebugFault}
 use Rattle.debug_text.specs.declared.DebugFault.the-variants as debugFault
-use Rattle.debug_text.proofs.Walks.{picked-is}
-use Rattle.debug_entries.specs.Answers.{enumDefIn, ValuesHold}
-use Rattle.debug_entries.specs.declared.enum_defs.EnumDefEntry.{EnumDefEntry}
+use Rattle.debug_text.proofs.Walks.{picked-is, holds-made}
+use Rattle.debug_entries.specs.Answers.{EnumerationEntry, withValues, entryOf, enumerationEntry}
 use Rattle.debug_tables.specs.Laws.{Standing}
 use Rattle.debug_tables.specs.declared.DebugTables.{DebugTables}
-use Rattle.debug_section.specs.Lookups.{debugTablesAt, startsAt, enumerationHeadOf, valuesAt}
-use Rattle.debug_section.specs.Answers.{enumerationHeadIn}
+use Rattle.debug_section.specs.Lookups.{debugTablesAt, startsAt, enumerationAt}
 use Rattle.debug_section.proofs.Parts.{moved, tables-refused, tables-stand}
 
 -- a table that reads gives an entry or 29, and no other refusal
@@ -82,7 +82,7 @@ module _ (f : List ℕ) (p : Place) where
           let g = tables-stand f p k in
           absurd (indexed-fault e (xs (g .tables)) n (look h ∙ ap (λ (y : Got (Tables Place)). y >>= λ t. indexed noEntry (xs t) n) (g .reads)))
 
-    -- of an enumeration its head, and where its values stand
+    -- an enumeration
     module _ (n : ℕ) where
       abbrev picks : Got (Enumeration Place)
       picks = picked (enumeration (keepIn (p .offset) (sliced f p))) (sliced f p) (u .enumerations .at) (u .enumerations .count) n
@@ -90,11 +90,24 @@ module _ (f : List ℕ) (p : Place) where
       looked : {x : Got (Enumeration Place)} → x ≡ picks → x ≡ (debugTablesAt f p >>= λ t. indexed noEntry (t .enumerations) n)
       looked h = look enumeration (λ u. u .enumerations) (λ t. t .enumerations) (λ t s. s .enumerations) n h
 
-      pub look-head : {x : Got (Enumeration Place)} → x ≡ picks → (x >>= λ e. found (enumerationHeadOf e)) ≡ (debugTablesAt f p >>= λ t. indexed noEntry (t .enumerations) n >>= λ e. found (enumerationHeadOf e))
-      look-head {x} h =
-          let g = tables-stand f p k in
-          ap (λ (y : Got (Enumeration Place)). y >>= λ e. found (enumerationHeadOf e)) (looked h ∙ ap (λ (y : Got (Tables Place)). y >>= λ t. indexed noEntry (t .enumerations) n) (g .reads))
-          ∙ sym (ap (λ (y : Got (Tables Place)). y >>= λ t. indexed noEntry (t .enumerations) n >>= λ e. found (enumerationHeadOf e)) (g .reads))
+      -- with the table of its values' names
+      entries-as : (y : Got (Tables Place)) → (y >>= λ t. indexed noEntry (map (entryOf (p .offset)) (t .enumerations)) n) ≡ ((y >>= enumerationOf n) >>= λ h. found (withValues (p .offset) h))
+      entries-as (refused e) = refl
+      entries-as (found t) =
+          indexed-map (entryOf (p .offset)) noEntry (t .enumerations) n
+          ∙ sym (renamed (λ e. record { named = e .named; valueCount = length (e .values) }) (λ h. found (withValues (p .offset) h)) (λ e. found (entryOf (p .offset) e)) (λ e. refl) (indexed noEntry (t .enumerations) n))
+
+      entries-hold : (t : Tables Place) → Standing (byPlace p) (cut f p) u t → Holds (enumerationEntry (p .offset) (byPlace p)) (cut f p) (u .enumerations) (map (entryOf (p .offset)) (t .enumerations))
+      entries-hold t s = holds-made (entryOf (p .offset)) (enumeration (byPlace p)) (cut f p) (u .enumerations) (t .enumerations) (s .enumerations)
+
+      abbrev entry-picks : Got EnumerationEntry
+      entry-picks = picked (enumerationEntry (p .offset) (keepIn (p .offset) (sliced f p))) (sliced f p) (u .enumerations .at) (u .enumerations .count) n
+
+      pub look-entry : {x : Got EnumerationEntry} → x ≡ entry-picks → x ≡ enumerationAt f p n
+      look-entry h = look (enumerationEntry (p .offset)) (λ u. u .enumerations) (λ t. map (entryOf (p .offset)) (t .enumerations)) entries-hold n h ∙ entries-as (debugTablesAt f p)
+
+      pub entry-fault : {B : Type 0} (e : DebugFault) → refused (debugFaultOf e) ≡ entry-picks → B
+      entry-fault e h = look-fault (enumerationEntry (p .offset)) (λ u. u .enumerations) (λ t. map (entryOf (p .offset)) (t .enumerations)) entries-hold n e h
 
       -- the name of one of its values
       pub look-value : {x : Got Place} (j : ℕ) → x ≡ (picks >>= λ e. indexed noEntry (e .values) j)
@@ -109,15 +122,3 @@ module _ (f : List ℕ) (p : Place) where
       value-fault j e h =
           let g = tables-stand f p k in
           absurd (then-fault e (g .tables .enumerations) n (λ a. a .values) j (look-value j h ∙ ap (λ (y : Got (Tables Place)). y >>= λ t. indexed noEntry (t .enumerations) n >>= λ e. indexed noEntry (e .values) j) (g .reads)))
-
--- an enumeration of the code: its values are as many as it says, and stand behind its name
-module _ (base : ℕ) (s : List ℕ) (e : EnumDefEntry) (h : ValuesHold base s e) where
-  pub head-is : enumerationHeadOf (enumDefIn base s e) ≡ enumerationHeadIn e
-  head-is =
-      let n = many-length (name (keepIn base s)) (e .values .count) (drop (e .values .at) s) _ (h .table .rest) (h .table .reads) in
-      ap (λ (i : ℕ). record { named = enumerationHeadIn e .named; valueCount = i }) n
-
-  pub values-placed : (p : Place) → base ≡ p .offset → e .values ≡ valuesAt p (enumerationHeadIn e)
-  values-placed p b =
-      let z : e .values .at ≡ enumerationHeadIn e .named .offset + enumerationHeadIn e .named .size + 2 - p .offset = let k = h .place in omega arith in
-      ap (λ (i : ℕ). record { at = i; count = e .values .count }) z

@@ -1,17 +1,13 @@
 -- What the code's answers mean.
 use Prim.Native.Nat.{ℕ}
 use mathlib.Core.List.{List}
-use mathlib.Core.Path.{_≡_}
 use Rattle.reading.specs.Answer.{Got, refused, found}
 use Rattle.format.specs.Parts.{Place, Inside}
 use Rattle.format.specs.Debug.{Variable, FunctionName, StringLayout, SourceFile}
-use Rattle.format.specs.Lookups.{EnumerationHead}
 use Rattle.base.specs.Error.{faultOf}
 use Rattle.base.specs.Section.{partIn}
-use Rattle.debug_entries.specs.Answers.{varNameIn, funcNameIn, stringLayoutIn, sourceFileIn}
-use Rattle.debug_entries.specs.declared.enum_defs.EnumDefEntry.{EnumDefEntry}
+use Rattle.debug_entries.specs.Answers.{varNameIn, funcNameIn, stringLayoutIn, sourceFileIn, EnumerationEntry, enumDefIn}
 use Rattle.debug_tables.specs.declared.DebugTables.{DebugTables}
-use Rattle.debug_section.specs.Lookups.{valuesAt}
 use Rattle.debug_section.specs.declared.StartsAnswer.{StartsAnswer}
 use Rattle.debug_section.specs.declared.StartsAnswer.the-variants as starts
 use Rattle.debug_section.specs.declared.VariableAnswer.{VariableAnswer}
@@ -54,17 +50,9 @@ sourceFrom (sourceAnswer.Entry x) = found (sourceFileIn x)
 
 -- Enumerations and their values
 
-abbrev pub enumerationHeadIn : EnumDefEntry → EnumerationHead Place
-enumerationHeadIn e = record { named = partIn (e .«type_name»); valueCount = e .values .count }
-
-abbrev pub enumerationFrom : EnumerationAnswer → Got (EnumerationHead Place)
+abbrev pub enumerationFrom : EnumerationAnswer → Got EnumerationEntry
 enumerationFrom (enumerationAnswer.Refused e) = refused (faultOf e)
-enumerationFrom (enumerationAnswer.Entry x) = found (enumerationHeadIn x)
-
--- the table of values of one that is answered stands behind its name and count
-abbrev pub ValuesPlaced : Place → EnumerationAnswer → Type 0
-ValuesPlaced p (enumerationAnswer.Refused e) = Unit {0}
-ValuesPlaced p (enumerationAnswer.Entry x) = x .values ≡ valuesAt p (enumerationHeadIn x)
+enumerationFrom (enumerationAnswer.Entry x) = found (enumDefIn x)
 
 abbrev pub valueFrom : ValueAnswer → Got Place
 valueFrom (valueAnswer.Refused e) = refused (faultOf e)

@@ -1,15 +1,15 @@
 -- What the lookups in the debug section answer, over a file and the section's place `p` in it (document 01: "A place not in the file
 -- behind the header gives 4, an unreadable section its own refusal, both before 11 to 17 and 29; for debug either gives 15").
-use Prim.Native.Nat.{ℕ, _+_, _-_}
+use Prim.Native.Nat.{ℕ}
 use mathlib.Core.List.{List}
 use lib.Dec.{leb}
 use lib.ListN.{length}
 use Rattle.reading.specs.Answer.{Got, found, _>>=_, _>>_, need, itemOf}
-use Rattle.reading.specs.declared.Table.{Table}
 use Rattle.format.specs.Faults.{tooLong, noDebug}
 use Rattle.format.specs.Parts.{limit, Place, cut, isInside, byPlace}
-use Rattle.format.specs.Debug.{Enumeration, Tables}
-use Rattle.format.specs.Lookups.{orNoDebug, debugAt, EnumerationHead, DebugAnswers, debugAnswersOf}
+use Rattle.format.specs.Debug.{Tables}
+use Rattle.format.specs.Lookups.{orNoDebug, debugAt, DebugAnswers, debugAnswersOf}
+use Rattle.debug_entries.specs.Answers.{EnumerationEntry, withValues}
 use Rattle.debug_tables.specs.Starts.{debugStarts}
 use Rattle.debug_tables.specs.declared.DebugTables.{DebugTables}
 
@@ -34,10 +34,6 @@ startsAt f p = do
   q ← debugPart f p
   orNoDebug (itemOf (debugStarts (cut f q)))
 
--- An enumeration's values: their names stand in the section behind the enumeration's name and a count of two bytes
-
-abbrev pub valuesAt : Place → EnumerationHead Place → Table
-valuesAt p h = record { at = h .named .offset + h .named .size + 2 - p .offset; count = h .valueCount }
-
-abbrev pub enumerationHeadOf : Enumeration Place → EnumerationHead Place
-enumerationHeadOf e = record { named = e .named; valueCount = length (e .values) }
+-- an enumeration with the table of its values' names
+abbrev pub enumerationAt : List ℕ → Place → ℕ → Got EnumerationEntry
+enumerationAt f p i = answersAt f p .enumeration i >>= λ h. found (withValues (p .offset) h)

@@ -31,9 +31,9 @@ use line_map::LineAnswer;
 ghost use mathlib.Core.Path.{_≡_};
 ghost use Rattle.base.specs.Section.{placeIn, partFrom, PartWithin};
 ghost use Rattle.line_map.specs.Answers.{lineFrom};
-ghost use Rattle.debug_section.specs.Lookups.{debugPart, startsAt, answersAt};
+ghost use Rattle.debug_section.specs.Lookups.{debugPart, startsAt, answersAt, enumerationAt};
 ghost use Rattle.debug_section.specs.Laws.{Laws};
-ghost use Rattle.debug_section.specs.Answers.{startsFrom, StartsInside, variableFrom, functionNameFrom, layoutFrom, sourceFrom, enumerationFrom, ValuesPlaced, valueFrom};
+ghost use Rattle.debug_section.specs.Answers.{startsFrom, StartsInside, variableFrom, functionNameFrom, layoutFrom, sourceFrom, enumerationFrom, valueFrom};
 
 // Where the tables in force stand; walks over them start there.
 pub enum StartsAnswer {
@@ -232,7 +232,7 @@ pub fn source_file(file: &[u8], section: Section, file_id: SourceFileId) -> Sour
 
 // The enumeration at a position of its table: its name, and where the names of its values stand in the section.
 pub fn enumeration(file: &[u8], section: Section, index: u16) -> EnumerationAnswer
-    ensures { λ r. ⌜ (enumerationFrom r ≡ answersAt (now (file .entry)) (placeIn section) .enumeration index) × ValuesPlaced (placeIn section) r ⌝ }
+    ensures { λ r. ⌜ enumerationFrom r ≡ enumerationAt (now (file .entry)) (placeIn section) index ⌝ }
 {
     match tables(file, section) {
         StartsAnswer::Refused(e) => EnumerationAnswer::Refused(e),

@@ -4,9 +4,7 @@ use Rattle.format.specs.Parts.{Place}
 use Rattle.format.specs.Debug.{Variable, FunctionName, StringLayout, SourceFile}
 use Rattle.base.specs.Error.{faultOf}
 use Rattle.base.specs.Section.{partIn}
-use Rattle.debug_entries.specs.Answers.{varNameIn, funcNameIn, stringLayoutIn, sourceFileIn}
-use Rattle.debug_section.specs.Answers.{enumerationHeadIn}
-use Rattle.debug_walks.specs.Steps.{EnumerationEntry}
+use Rattle.debug_entries.specs.Answers.{varNameIn, funcNameIn, stringLayoutIn, sourceFileIn, EnumerationEntry, enumDefIn}
 use Rattle.debug_walks.specs.declared.VariableNext.{VariableNext}
 use Rattle.debug_walks.specs.declared.VariableNext.the-variants as variableNext
 use Rattle.debug_walks.specs.declared.FunctionNameNext.{FunctionNameNext}
@@ -43,7 +41,7 @@ sourceNextFrom (sourceNext.Entry x t) = entry (sourceFileIn x) t
 abbrev pub enumerationNextFrom : EnumerationNext → Next EnumerationEntry
 enumerationNextFrom enumerationNext.End = ends
 enumerationNextFrom (enumerationNext.Refused e) = faulty (faultOf e)
-enumerationNextFrom (enumerationNext.Entry x t) = entry (record { head = enumerationHeadIn x; values = x .values }) t
+enumerationNextFrom (enumerationNext.Entry x t) = entry (enumDefIn x) t
 
 abbrev pub valueNextFrom : ValueNext → Next Place
 valueNextFrom valueNext.End = ends

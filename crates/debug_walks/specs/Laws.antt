@@ -10,7 +10,8 @@ use Rattle.format.specs.Parts.{Place, byPlace}
 use Rattle.format.specs.Debug.{line, name, variable, functionName, stringLayout, sourceFile, Enumeration, Tables}
 use Rattle.debug_tables.specs.declared.DebugTables.{DebugTables}
 use Rattle.debug_section.specs.Lookups.{debugTablesAt, startsAt}
-use Rattle.debug_walks.specs.Steps.{debugStepAt, entryOf, enumerationStep}
+use Rattle.debug_entries.specs.Answers.{entryOf, enumerationEntry}
+use Rattle.debug_walks.specs.Steps.{debugStepAt}
 
 -- from a table on, as many steps as it has entries give them, and more steps give no more
 abbrev pub Gives : {A : Type 0} → (Table → Next A) → Table → List A → Type 0
@@ -24,8 +25,8 @@ pub record Walks (f : List ℕ) (p : Place) (t : Tables Place) : Type 0 where
   pub functions : Gives (debugStepAt f p (functionName (byPlace p))) (starts .functions) (t .functions)
   pub strings : Gives (debugStepAt f p stringLayout) (starts .strings) (t .strings)
   pub files : Gives (debugStepAt f p (sourceFile (byPlace p))) (starts .files) (t .files)
-  pub enumerations : Gives (enumerationStep f p) (starts .enumerations) (map (entryOf p) (t .enumerations))
-  pub values : (i : ℕ) (e : Enumeration Place) → indexed noEntry (t .enumerations) i ≡ found e → Gives (debugStepAt f p (name (byPlace p))) (entryOf p e .values) (e .values)
+  pub enumerations : Gives (debugStepAt f p (enumerationEntry (p .offset) (byPlace p))) (starts .enumerations) (map (entryOf (p .offset)) (t .enumerations))
+  pub values : (i : ℕ) (e : Enumeration Place) → indexed noEntry (t .enumerations) i ≡ found e → Gives (debugStepAt f p (name (byPlace p))) (entryOf (p .offset) e .values) (e .values)
 
 pub record Laws : Type 0 where
   pub walks : (f : List ℕ) (p : Place) (t : Tables Place) → debugTablesAt f p ≡ found t → Walks f p t

@@ -6,10 +6,8 @@ use Rattle.reading.specs.Answer.{Got, refused, found}
 use Rattle.reading.specs.Places.{Next, ends, faulty, entry, stepOf}
 use Rattle.reading.specs.declared.Table.{Table}
 use Rattle.format.specs.Faults.{noDebug}
-use Rattle.format.specs.Parts.{Place, cut, byPlace}
-use Rattle.format.specs.Debug.{Enumeration, enumeration}
-use Rattle.format.specs.Lookups.{EnumerationHead}
-use Rattle.debug_section.specs.Lookups.{debugPart, valuesAt, enumerationHeadOf}
+use Rattle.format.specs.Parts.{Place, cut}
+use Rattle.debug_section.specs.Lookups.{debugPart}
 
 -- an entry that does not read gives 15
 abbrev pub noDebugStep : {A : Type 0} → Next A → Next A
@@ -23,20 +21,3 @@ debugStepBy f (found p) r t = noDebugStep (stepOf r (cut f p) t)
 
 abbrev pub debugStepAt : {A : Type 0} → List ℕ → Place → Reader A → Table → Next A
 debugStepAt f p r t = debugStepBy f (debugPart f p) r t
-
--- Enumerations: a step answers the head, and the table of the values' names
-
-pub record EnumerationEntry : Type 0 where
-  pub head : EnumerationHead Place
-  pub values : Table
-
-abbrev pub entryOf : Place → Enumeration Place → EnumerationEntry
-entryOf p e = record { head = enumerationHeadOf e; values = valuesAt p (enumerationHeadOf e) }
-
-abbrev pub onEntry : {A B : Type 0} → (A → B) → Next A → Next B
-onEntry m ends = ends
-onEntry m (faulty e) = faulty e
-onEntry m (entry a t) = entry (m a) t
-
-abbrev pub enumerationStep : List ℕ → Place → Table → Next EnumerationEntry
-enumerationStep f p t = onEntry (entryOf p) (debugStepAt f p (enumeration (byPlace p)) t)

@@ -29,7 +29,8 @@ ghost use Rattle.format.specs.Parts.{byPlace};
 ghost use Rattle.format.specs.Debug.{line, name, variable, functionName, stringLayout, sourceFile};
 ghost use Rattle.base.specs.Section.{placeIn};
 ghost use Rattle.line_map.specs.Answers.{lineNextFrom};
-ghost use Rattle.debug_walks.specs.Steps.{debugStepAt, enumerationStep};
+ghost use Rattle.debug_walks.specs.Steps.{debugStepAt};
+ghost use Rattle.debug_entries.specs.Answers.{enumerationEntry};
 ghost use Rattle.debug_walks.specs.Answers.{variableNextFrom, functionNameNextFrom, layoutNextFrom, sourceNextFrom, enumerationNextFrom, valueNextFrom};
 ghost use Rattle.debug_walks.specs.Laws.{Laws};
 
@@ -162,7 +163,7 @@ pub fn next_source_file(file: &[u8], section: Section, t: Table) -> SourceNext
 
 // The next enumeration of a walk.
 pub fn next_enumeration(file: &[u8], section: Section, t: Table) -> EnumerationNext
-    ensures { λ r. ⌜ enumerationNextFrom r ≡ enumerationStep (now (file .entry)) (placeIn section) t ⌝ }
+    ensures { λ r. ⌜ enumerationNextFrom r ≡ debugStepAt (now (file .entry)) (placeIn section) (enumerationEntry (section .offset) (byPlace (placeIn section))) t ⌝ }
 {
     match debug_part(file, section) {
         PartAnswer::Refused(e) => EnumerationNext::Refused(e),

@@ -51,7 +51,7 @@ item-on : {A B : Type 0} {whole : List ℕ} (m : B → A) {x : Read A} {y : Read
 item-on m (stops f) = refl
 item-on m (gives b t w) = refl
 
-indexed-map : {A B : Type 0} (m : B → A) (out : Fault) (xs : List B) (i : ℕ) → indexed out (map m xs) i ≡ (indexed out xs i >>= λ x. found (m x))
+pub indexed-map : {A B : Type 0} (m : B → A) (out : Fault) (xs : List B) (i : ℕ) → indexed out (map m xs) i ≡ (indexed out xs i >>= λ x. found (m x))
 indexed-map m out [] i = refl
 indexed-map m out (x ∷ xs) zero = refl
 indexed-map m out (x ∷ xs) (suc i) = indexed-map m out xs i

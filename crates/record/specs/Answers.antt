@@ -1,9 +1,14 @@
 -- What the code's record means.
+use Prim.Native.Nat.{ℕ}
+use mathlib.Core.List.{List}
 use mathlib.Core.Option.{Option, none, some}
+use Rattle.reading.specs.Answer.{Got, found, _>>=_}
 use Rattle.format.specs.Record as format
+use Rattle.format.specs.Lookups.{debugAnswers}
 use Rattle.header.specs.Answers.{headerIn}
 use Rattle.task_table.specs.Answers as tasks
 use Rattle.type_section.specs.Answers as types
+use Rattle.debug_entries.specs.Answers.{EnumerationEntry, withValues}
 use Rattle.debug_tables.specs.Answers.{maybeDebug}
 use Rattle.record.specs.declared.MaybeTypes.{MaybeTypes}
 use Rattle.record.specs.declared.MaybeTypes.the-variants as maybe-types
@@ -22,3 +27,7 @@ containerIn c =
       constants = c .constants;
       debug = maybeDebug (c .debug);
     }
+
+-- an enumeration with the table of its values' names, which stands in the debug section
+abbrev pub enumerationWith : List ℕ → format.Container → ℕ → Got EnumerationEntry
+enumerationWith f r i = debugAnswers f r .enumeration i >>= λ h. found (withValues (r .header .directory .debug .offset) h)

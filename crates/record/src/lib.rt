@@ -11,8 +11,8 @@ ghost use Rattle.type_section.specs.Answers.{fbTypeFrom, fieldFrom, arrayFrom, 
 ghost use Rattle.constant_pool.specs.Answers.{constFrom, ConstEnds, u32From, u64From, i32From, i64From, widthFrom};
 ghost use Rattle.code_section.specs.Answers.{funcFrom};
 ghost use Rattle.line_map.specs.Answers.{lineFrom};
-ghost use Rattle.debug_section.specs.Answers.{variableFrom, functionNameFrom, layoutFrom, sourceFrom, enumerationFrom, ValuesPlaced, valueFrom};
-ghost use Rattle.record.specs.Answers.{containerIn};
+ghost use Rattle.debug_section.specs.Answers.{variableFrom, functionNameFrom, layoutFrom, sourceFrom, enumerationFrom, valueFrom};
+ghost use Rattle.record.specs.Answers.{containerIn, enumerationWith};
 ghost use Rattle.record.specs.Absence.{absentFault};
 use base::error::ContainerError;
 use base::id_types::ConstantIndex;
@@ -343,7 +343,7 @@ impl Container {
 
     // An enumeration: its name and where its values stand.
     pub fn enumeration(self, file: &[u8], index: u16) -> EnumerationAnswer
-        ensures { λ r. ⌜ (enumerationFrom r ≡ debugAnswers (now (file .entry)) (containerIn self) .enumeration index) × ValuesPlaced (placeIn (self .header .sections .«debug_section»)) r ⌝ }
+        ensures { λ r. ⌜ enumerationFrom r ≡ enumerationWith (now (file .entry)) (containerIn self) index ⌝ }
     {
         let debug = self.debug;
         match debug {

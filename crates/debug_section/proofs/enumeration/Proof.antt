@@ -1,15 +1,14 @@
--- `debug_section::enumeration` meets its contract: the section's tables, and of the entry of an index its head.
+-- `debug_section::enumeration` meets its contract: the section's tables, and the entry of an index.
 use mathlib.Core.Path.{sym, ap, subst, _∙_}
 use native.Mathlib.Omega.{arith}
 use denote.Ref.{now}
 use Rattle.base.specs.Section.{placeIn}
-use Rattle.format.specs.Debug.{enumeration}
-use Rattle.base.proofs.FileLookups.{sliced}
-use Rattle.reading.specs.Answer.{found}
-use mathlib.Core.Path.{refl}
-use Rattle.debug_entries.specs.Answers.{enumDefFrom, AnswerHolds}
+use Rattle.reading.specs.Answer.{Got, found, _>>=_}
+use Rattle.format.specs.Parts.{Place}
+use Rattle.format.specs.Lookups.{EnumerationHead, enumerationOf}
+use Rattle.debug_entries.specs.Answers.{withValues, enumDefFrom}
 use Rattle.debug_section.specs.Answers.{startsFrom, StartsInside}
-use Rattle.debug_section.proofs.Lookups.{refused-then, look-fault, look-head, head-is, values-placed}
+use Rattle.debug_section.proofs.Lookups.{refused-then, entry-fault, look-entry}
 use borrow.Author.Needs.{needs}
 use Rattle.debug_section.proofs.enumeration.Statement.{statement}
 use Rattle.debug_section.proofs.enumeration.Tie as tie
@@ -20,32 +19,29 @@ part-find-enum-def-end c = omega (arith, subst (StartsInside _ _) (c .before .be
 returns : tie.Need-returns
 returns c =
     let a = c .before .before .before .before .before .args in
-    (refused-then (now (a .file)) (placeIn (a .section)) _ (ap startsFrom (sym (c .before .e .given .1)) ∙ c .before .before .before .tables .ensures .0), tt)
+    ap (λ (y : Got (EnumerationHead Place)). y >>= λ h. found (withValues (a .section .offset) h))
+    (refused-then (now (a .file)) (placeIn (a .section)) (enumerationOf (a .index)) (ap startsFrom (sym (c .before .e .given .1)) ∙ c .before .before .before .tables .ensures .0))
 
 returns-2 : tie.Need-returns-2
 returns-2 c =
     let a = c .before .before .before .before .before .before .before .before .before .before .before .args in
     let k = ap startsFrom (sym (c .before .before .before .before .before .before .before .t .given .1)) ∙ c .before .before .before .before .before .before .before .before .before .tables .ensures .0 in
     let i = subst (StartsInside (now (a .file)) (placeIn (a .section))) (c .before .before .before .before .before .before .before .t .given .1) (c .before .before .before .before .before .before .before .before .before .tables .ensures .1) in
-    look-fault (now (a .file)) (placeIn (a .section)) k i enumeration (λ u. u .enumerations) (λ t. t .enumerations) (λ t s. s .enumerations) (a .index) (c .enum-told .given .0 .0) (ap (enumDefFrom _ _) (sym (c .enum-told .given .1)) ∙ c .before .before .find-enum-def .ensures .0)
+    entry-fault (now (a .file)) (placeIn (a .section)) k i (a .index) (c .enum-told .given .0 .0) (ap enumDefFrom (sym (c .enum-told .given .1)) ∙ c .before .before .find-enum-def .ensures)
 
 returns-3 : tie.Need-returns-3
 returns-3 c =
     let a = c .before .before .before .before .before .before .before .before .before .before .before .args in
     let k = ap startsFrom (sym (c .before .before .before .before .before .before .before .t .given .1)) ∙ c .before .before .before .before .before .before .before .before .before .tables .ensures .0 in
     let i = subst (StartsInside (now (a .file)) (placeIn (a .section))) (c .before .before .before .before .before .before .before .t .given .1) (c .before .before .before .before .before .before .before .before .before .tables .ensures .1) in
-    (look-head (now (a .file)) (placeIn (a .section)) k i (a .index) (ap (enumDefFrom _ _) (sym (c .enum-told2 .given .1)) ∙ c .before .before .find-enum-def .ensures .0), tt)
+    look-entry (now (a .file)) (placeIn (a .section)) k i (a .index) (ap enumDefFrom (sym (c .enum-told2 .given .1)) ∙ c .before .before .find-enum-def .ensures)
 
 returns-4 : tie.Need-returns-4
 returns-4 c =
     let a = c .before .before .before .before .before .before .before .before .before .before .before .before .args in
     let k = ap startsFrom (sym (c .before .before .before .before .before .before .before .before .t .given .1)) ∙ c .before .before .before .before .before .before .before .before .before .before .tables .ensures .0 in
     let i = subst (StartsInside (now (a .file)) (placeIn (a .section))) (c .before .before .before .before .before .before .before .before .t .given .1) (c .before .before .before .before .before .before .before .before .before .before .tables .ensures .1) in
-    let x = c .before .x .given in
-    let h = subst (AnswerHolds (a .section .offset) (sliced (now (a .file)) (placeIn (a .section)))) (x .1) (c .before .before .before .find-enum-def .ensures .1) in (
-      ap found (sym (head-is (a .section .offset) (sliced (now (a .file)) (placeIn (a .section))) (x .0 .0) h)) ∙ look-head (now (a .file)) (placeIn (a .section)) k i (a .index) (ap (enumDefFrom _ _) (sym (x .1)) ∙ c .before .before .before .find-enum-def .ensures .0),
-      values-placed (a .section .offset) (sliced (now (a .file)) (placeIn (a .section))) (x .0 .0) h (placeIn (a .section)) refl,
-    )
+    look-entry (now (a .file)) (placeIn (a .section)) k i (a .index) (ap enumDefFrom (sym (c .before .x .given .1)) ∙ c .before .before .before .find-enum-def .ensures)
 
 pub enumeration-spec : {M : Type 1} → statement M
 enumeration-spec =

@@ -3,13 +3,8 @@ use mathlib.Core.Path.{sym, ap, subst, _∙_}
 use native.Mathlib.Omega.{arith}
 use denote.Ref.{now}
 use Rattle.base.specs.Section.{placeIn, partFrom, PartWithin}
-use Rattle.format.specs.Debug.{enumeration}
-use Rattle.debug_entries.specs.Answers.{enumDefNext, NextHolds}
-use Rattle.base.proofs.FileLookups.{sliced}
-use Rattle.reading.specs.Places.{entry}
-use Rattle.base.specs.Section.{partIn}
-use Rattle.debug_walks.specs.Steps.{EnumerationEntry, entryOf, onEntry}
-use Rattle.debug_walks.proofs.Steps.{step-refused, step-found, place-told, entry-is}
+use Rattle.debug_entries.specs.Answers.{enumDefNext}
+use Rattle.debug_walks.proofs.Steps.{step-refused, entry-found}
 use borrow.Author.Needs.{needs}
 use Rattle.debug_walks.proofs.next_enumeration.Statement.{statement}
 use Rattle.debug_walks.proofs.next_enumeration.Tie as tie
@@ -26,28 +21,25 @@ next-enum-def-requires c κs = omega (arith, subst (PartWithin _) (c .before .be
 returns : tie.Need-returns
 returns c =
     let a = c .before .before .before .before .before .args in
-    ap (onEntry (entryOf (placeIn (a .section)))) (step-refused (now (a .file)) (placeIn (a .section)) _ (a .t) (ap partFrom (sym (c .before .e .given .1)) ∙ c .before .before .before .debug-part .ensures .0))
+    step-refused (now (a .file)) (placeIn (a .section)) _ (a .t) (ap partFrom (sym (c .before .e .given .1)) ∙ c .before .before .before .debug-part .ensures .0)
 
 returns-2 : tie.Need-returns-2
 returns-2 c =
     let a = c .before .before .before .before .before .before .before .before .before .before .args in
     let k = ap partFrom (sym (c .before .before .before .before .before .before .p .given .1)) ∙ c .before .before .before .before .before .before .before .before .debug-part .ensures .0 in
-    ap (onEntry (entryOf (placeIn (a .section)))) (step-found (now (a .file)) (placeIn (a .section)) enumeration (a .t) k (ap (enumDefNext _ _) (sym (c .enum-told .given .1)) ∙ c .before .before .next-enum-def .ensures .0))
+    entry-found (now (a .file)) (placeIn (a .section)) (a .t) k (ap enumDefNext (sym (c .enum-told .given .1)) ∙ c .before .before .next-enum-def .ensures)
 
 returns-3 : tie.Need-returns-3
 returns-3 c =
     let a = c .before .before .before .before .before .before .before .before .before .before .args in
     let k = ap partFrom (sym (c .before .before .before .before .before .before .p .given .1)) ∙ c .before .before .before .before .before .before .before .before .debug-part .ensures .0 in
-    ap (onEntry (entryOf (placeIn (a .section)))) (step-found (now (a .file)) (placeIn (a .section)) enumeration (a .t) k (ap (enumDefNext _ _) (sym (c .enum-told2 .given .1)) ∙ c .before .before .next-enum-def .ensures .0))
+    entry-found (now (a .file)) (placeIn (a .section)) (a .t) k (ap enumDefNext (sym (c .enum-told2 .given .1)) ∙ c .before .before .next-enum-def .ensures)
 
 returns-4 : tie.Need-returns-4
 returns-4 c =
     let a = c .before .before .before .before .before .before .before .before .before .before .before .args in
     let k = ap partFrom (sym (c .before .before .before .before .before .before .before .p .given .1)) ∙ c .before .before .before .before .before .before .before .before .before .debug-part .ensures .0 in
-    let x = c .before .x .given in
-    let h = subst (NextHolds (c .before .before .before .before .before .before .before .p .given .0 .0 .offset) (sliced (now (a .file)) (partIn (c .before .before .before .before .before .before .before .p .given .0 .0)))) (x .1) (c .before .before .before .next-enum-def .ensures .1) in
-    ap (λ (v : EnumerationEntry). entry v (x .0 .1 .0)) (sym (entry-is (c .before .before .before .before .before .before .before .p .given .0 .0 .offset) (sliced (now (a .file)) (partIn (c .before .before .before .before .before .before .before .p .given .0 .0))) (x .0 .0) h (placeIn (a .section)) (place-told (now (a .file)) (placeIn (a .section)) k)))
-    ∙ ap (onEntry (entryOf (placeIn (a .section)))) (step-found (now (a .file)) (placeIn (a .section)) enumeration (a .t) k (ap (enumDefNext _ _) (sym (c .before .x .given .1)) ∙ c .before .before .before .next-enum-def .ensures .0))
+    entry-found (now (a .file)) (placeIn (a .section)) (a .t) k (ap enumDefNext (sym (c .before .x .given .1)) ∙ c .before .before .before .next-enum-def .ensures)
 
 pub next-enumeration-spec : {M : Type 1} → statement M
 next-enumeration-spec =

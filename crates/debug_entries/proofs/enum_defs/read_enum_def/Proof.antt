@@ -3,10 +3,7 @@ use mathlib.Core.Path.{ap}
 use native.Mathlib.Omega.{arith}
 use denote.Ref.{now}
 use Rattle.reading.proofs.Passing.{goes-told, reads-told}
-use Rattle.format.specs.Debug.{name}
-use Rattle.base.specs.Section.{partIn}
-use Rattle.debug_text.specs.Answers.{keepIn, wayOf, textStep}
-use Rattle.debug_text.proofs.Texts.{name-ends}
+use Rattle.debug_text.specs.Answers.{wayOf, textStep}
 use Rattle.debug_entries.proofs.Entries.{enum-stop, enum-short, enum-fault, enum-read}
 use borrow.Author.Needs.{needs}
 use Rattle.debug_entries.proofs.enum_defs.read_enum_def.Statement.{statement}
@@ -17,15 +14,20 @@ sub-if1 : tie.Need-sub-if1
 sub-if1 c = reads-told _ _ _ (ap textStep (c .before .type-name .given .1)) (c .before .before .before .read-name .ensures) .0
 
 returns : tie.Need-returns
-returns c = (enum-short _ _ _ _ _ (ap textStep (c .before .before .type-name .given .1)) (c .before .before .before .before .read-name .ensures) (c .if1 .taken), tt)
+returns c =
+    let a = c .before .before .before .before .before .before .args in
+    enum-short (a .base) (now (a .s)) (a .at) _ _ (ap textStep (c .before .before .type-name .given .1)) (c .before .before .before .before .read-name .ensures) (c .if1 .taken)
 
 returns-2 : tie.Need-returns-2
-returns-2 c = (enum-stop _ _ _ _ (ap textStep (c .before .e .given .1)) (c .before .before .before .read-name .ensures), tt)
+returns-2 c =
+    let a = c .before .before .before .before .before .args in
+    enum-stop (a .base) (now (a .s)) (a .at) _ (ap textStep (c .before .e .given .1)) (c .before .before .before .read-name .ensures)
 
 returns-3 : tie.Need-returns-3
 returns-3 c =
     let l = reads-told _ _ _ (ap textStep (c .before .before .before .before .before .before .before .type-name .given .1)) (c .before .before .before .before .before .before .before .before .before .read-name .ensures) .0 in
-    (enum-fault _ _ _ _ _ (ap textStep (c .before .before .before .before .before .before .before .type-name .given .1)) (c .before .before .before .before .before .before .before .before .before .read-name .ensures) _ (omega arith) (c .before .before .before .before .u16-at .ensures) _ (goes-told _ _ _ (ap wayOf (c .before .e2 .given .1)) (c .before .before .before .skip-names .ensures)), tt)
+    let a = c .before .before .before .before .before .before .before .before .before .before .before .args in
+    enum-fault (a .base) (now (a .s)) (a .at) _ _ (ap textStep (c .before .before .before .before .before .before .before .type-name .given .1)) (c .before .before .before .before .before .before .before .before .before .read-name .ensures) _ (omega arith) (c .before .before .before .before .u16-at .ensures) _ (goes-told _ _ _ (ap wayOf (c .before .e2 .given .1)) (c .before .before .before .skip-names .ensures))
 
 returns-4 : tie.Need-returns-4
 returns-4 c =
@@ -34,8 +36,7 @@ returns-4 c =
     let e = ap textStep (v .1) in
     let g = c .before .before .before .before .before .before .before .before .before .read-name .ensures in
     let l = reads-told _ _ _ e g .0 in
-    let k = enum-read _ _ _ _ _ e g _ (omega arith) (c .before .before .before .before .u16-at .ensures) _ (goes-told _ _ _ (ap wayOf (c .before .m .given .1)) (c .before .before .before .skip-names .ensures)) in
-    (k .0, record { table = k .1; place = let n = name-ends (a .base) (now (a .s)) (a .at) (partIn (v .0 .0)) (v .0 .1 .0) (reads-told (name (keepIn (a .base) (now (a .s)))) (now (a .s)) (a .at) e g) in omega arith })
+    enum-read (a .base) (now (a .s)) (a .at) _ _ e g _ (omega arith) (c .before .before .before .before .u16-at .ensures) _ (goes-told _ _ _ (ap wayOf (c .before .m .given .1)) (c .before .before .before .skip-names .ensures))
 
 pub read-enum-def-spec : {M : Type 1} → statement M
 read-enum-def-spec =

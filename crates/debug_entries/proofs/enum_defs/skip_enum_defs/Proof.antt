@@ -2,11 +2,12 @@
 use mathlib.Core.Path.{ap}
 use Prim.Native.Nat.{_-_}
 use native.Mathlib.Omega.{arith}
+use denote.Ref.{now}
 use Rattle.reading.proofs.Passing.{Passed, passed-none, passed-all}
 use Rattle.format.specs.Debug.{enumeration}
 use Rattle.debug_text.specs.Answers.{keepIn}
-use Rattle.debug_text.proofs.Walks.{walk-stop, walk-more}
-use Rattle.debug_entries.specs.Answers.{enumDefStep}
+use Rattle.debug_text.proofs.Walks.{made-stop, made-more}
+use Rattle.debug_entries.specs.Answers.{entryOf, enumDefStep}
 use borrow.Author.Needs.{needs}
 use Rattle.debug_entries.proofs.enum_defs.skip_enum_defs.Statement.{statement}
 use Rattle.debug_entries.proofs.enum_defs.skip_enum_defs.Tie as tie
@@ -21,10 +22,14 @@ loop-holds : tie.Need-loop-holds Inv-loop μ-loop
 loop-holds c = passed-none _ _ _ _ (omega arith)
 
 returns : tie.Need-returns Inv-loop μ-loop
-returns c = walk-stop _ _ _ _ _ _ _ (c .before .before .before .before .loop-test .taken) (c .before .before .before .before .before .loop .inv) (ap (enumDefStep _ _) (c .before .e .given .1)) (c .before .before .before .read-enum-def .ensures .0)
+returns c =
+    let a = c .before .before .before .before .before .before .before .args in
+    made-stop (entryOf (a .base)) (enumeration (keepIn (a .base) (now (a .s)))) (now (a .s)) _ _ _ _ _ (c .before .before .before .before .loop-test .taken) (c .before .before .before .before .before .loop .inv) (ap enumDefStep (c .before .e .given .1)) (c .before .before .before .read-enum-def .ensures)
 
 loop-again : tie.Need-loop-again Inv-loop μ-loop
-loop-again c = walk-more _ _ _ _ _ _ _ _ (c .before .before .before .before .loop-test .taken) (c .before .before .before .before .before .loop .inv) (ap (enumDefStep _ _) (c .before .m .given .1)) (c .before .before .before .read-enum-def .ensures .0)
+loop-again c =
+    let a = c .before .before .before .before .before .before .before .args in
+    made-more (entryOf (a .base)) (enumeration (keepIn (a .base) (now (a .s)))) (now (a .s)) _ _ _ _ _ _ (c .before .before .before .before .loop-test .taken) (c .before .before .before .before .before .loop .inv) (ap enumDefStep (c .before .m .given .1)) (c .before .before .before .read-enum-def .ensures)
 
 returns-2 : tie.Need-returns-2 Inv-loop μ-loop
 returns-2 c = passed-all _ _ _ _ _ _ (c .loop-test .left) (c .before .loop .inv)
