@@ -12,7 +12,7 @@ use Rattle.reading.specs.Numbers.{le, leAt}
 use Rattle.reading.proofs.Le.{le-take-fill}
 use Rattle.reading.proofs.Parts.{part-of-part}
 use Rattle.compression.specs.Word.{table, words}
-use Rattle.compression.specs.Compression.{compress}
+use Rattle.compression.specs.Compression.{start, rounds, fold, compress}
 
 -- ---- tables
 
@@ -63,6 +63,12 @@ words-filled b n = table-ext _ _ 16 (λ i h. leAt-filled 4 (4 * i) b n)
 pub words-take : (b : List ℕ) → words (take 64 b) ≡ words b
 unfolding words
 words-take b = table-ext _ _ 16 (λ i h. ap le (rw zero-add at (part-of-part b 0 64 (4 * i) 4 (omega arith))))
+
+-- ---- compression, step by step
+
+pub compressed : (h m : List ℕ) (t len flags : ℕ) {s v r : List ℕ} → s ≡ start h t len flags → v ≡ rounds 7 s m → r ≡ fold v → r ≡ compress h m t len flags
+unfolding compress
+compressed h m t len flags p q e = cc
 
 -- ---- lengths
 

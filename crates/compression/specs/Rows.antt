@@ -25,3 +25,28 @@ abbrev pub square : (a b c d : List ℕ) → List ℕ
 square a b c d =
     at a 0 ∷ at a 1 ∷ at a 2 ∷ at a 3 ∷ at b 0 ∷ at b 1 ∷ at b 2 ∷ at b 3
     ∷ at c 0 ∷ at c 1 ∷ at c 2 ∷ at c 3 ∷ at d 0 ∷ at d 1 ∷ at d 2 ∷ at d 3 ∷ []
+
+-- the words of l at four places
+abbrev pub four : List ℕ → (i j k n : ℕ) → List ℕ
+four l i j k n = at l i ∷ at l j ∷ at l k ∷ at l n ∷ []
+
+-- four quarter-rounds side by side, on the columns of the state v, with the words x and y of the message
+unfoldable pub half : (v x y : List ℕ) → List ℕ
+half v x y =
+    let b = four v 4 5 6 7 in
+    let a1 = sum3 (four v 0 1 2 3) b x in
+    let d1 = turn 16 (four v 12 13 14 15) a1 in
+    let c1 = sum (four v 8 9 10 11) d1 in
+    let b1 = turn 12 b c1 in
+    let a2 = sum3 a1 b1 y in
+    let d2 = turn 8 d1 a2 in
+    let c2 = sum c1 d2 in
+    let b2 = turn 7 b1 c2 in
+    square a2 b2 c2 d2
+
+-- the rows below the first shifted by 1, 2 and 3 places, so that the diagonals are columns, and shifted back
+unfoldable pub shifted : List ℕ → List ℕ
+shifted v = square (four v 0 1 2 3) (four v 5 6 7 4) (four v 10 11 8 9) (four v 15 12 13 14)
+
+unfoldable pub back : List ℕ → List ℕ
+back v = square (four v 0 1 2 3) (four v 7 4 5 6) (four v 10 11 8 9) (four v 13 14 15 12)

@@ -146,40 +146,84 @@ fn square(a: [u32; 4], b: [u32; 4], c: [u32; 4], d: [u32; 4]) -> [u32; 16]
     ]
 }
 
-// A round: the four columns side by side, then the four diagonals.
-fn round(v: [u32; 16], m: [u32; 16]) -> [u32; 16]
-    ensures { λ r. ⌜ r ≡ C.round v m ⌝ }
+// Four quarter-rounds side by side, on the columns of the state: the words x of the message, then y.
+pub fn half(v: [u32; 16], x: [u32; 4], y: [u32; 4]) -> [u32; 16]
+    ensures { λ r. ⌜ r ≡ R.half v x y ⌝ }
 {
     let a0 = [v[0], v[1], v[2], v[3]];
     let b0 = [v[4], v[5], v[6], v[7]];
     let c0 = [v[8], v[9], v[10], v[11]];
     let d0 = [v[12], v[13], v[14], v[15]];
-    // The columns.
-    let a1 = sum3(a0, b0, [m[0], m[2], m[4], m[6]]);
+    let a1 = sum3(a0, b0, x);
     let d1 = turn16(d0, a1);
     let c1 = sum(c0, d1);
     let b1 = turn12(b0, c1);
-    let a2 = sum3(a1, b1, [m[1], m[3], m[5], m[7]]);
+    let a2 = sum3(a1, b1, y);
     let d2 = turn8(d1, a2);
     let c2 = sum(c1, d2);
     let b2 = turn7(b1, c2);
-    // The diagonals: they are columns once the rows below the first are shifted by 1, 2 and 3 places.
-    let b3 = [b2[1], b2[2], b2[3], b2[0]];
-    let c3 = [c2[2], c2[3], c2[0], c2[1]];
-    let d3 = [d2[3], d2[0], d2[1], d2[2]];
-    let a4 = sum3(a2, b3, [m[8], m[10], m[12], m[14]]);
-    let d4 = turn16(d3, a4);
-    let c4 = sum(c3, d4);
-    let b4 = turn12(b3, c4);
-    let a5 = sum3(a4, b4, [m[9], m[11], m[13], m[15]]);
-    let d5 = turn8(d4, a5);
-    let c5 = sum(c4, d5);
-    let b5 = turn7(b4, c5);
-    // The rows shifted back.
-    let b6 = [b5[3], b5[0], b5[1], b5[2]];
-    let c6 = [c5[2], c5[3], c5[0], c5[1]];
-    let d6 = [d5[1], d5[2], d5[3], d5[0]];
-    square(a5, b6, c6, d6)
+    square(a2, b2, c2, d2)
+}
+
+// The rows below the first shifted by 1, 2 and 3 places: the diagonals are columns then.
+pub fn shifted(v: [u32; 16]) -> [u32; 16]
+    ensures { λ r. ⌜ r ≡ R.shifted v ⌝ }
+{
+    [
+        v[0],
+        v[1],
+        v[2],
+        v[3],
+        v[5],
+        v[6],
+        v[7],
+        v[4],
+        v[10],
+        v[11],
+        v[8],
+        v[9],
+        v[15],
+        v[12],
+        v[13],
+        v[14],
+    ]
+}
+
+// The rows shifted back.
+pub fn back(v: [u32; 16]) -> [u32; 16]
+    ensures { λ r. ⌜ r ≡ R.back v ⌝ }
+{
+    [
+        v[0],
+        v[1],
+        v[2],
+        v[3],
+        v[7],
+        v[4],
+        v[5],
+        v[6],
+        v[10],
+        v[11],
+        v[8],
+        v[9],
+        v[13],
+        v[14],
+        v[15],
+        v[12],
+    ]
+}
+
+// A round: the four columns, then the four diagonals.
+fn round(v: [u32; 16], m: [u32; 16]) -> [u32; 16]
+    ensures { λ r. ⌜ r ≡ C.round v m ⌝ }
+{
+    let columns = half(v, [m[0], m[2], m[4], m[6]], [m[1], m[3], m[5], m[7]]);
+    let diagonals = half(
+        shifted(columns),
+        [m[8], m[10], m[12], m[14]],
+        [m[9], m[11], m[13], m[15]],
+    );
+    back(diagonals)
 }
 
 // The order in which the next round takes the words of the message.
@@ -222,7 +266,7 @@ fn rounds(state: [u32; 16], block: [u32; 16]) -> [u32; 16]
 }
 
 // The state that compression starts from.
-fn start(h: [u32; 8], t: u64, len: u32, flags: u32) -> [u32; 16]
+pub fn start(h: [u32; 8], t: u64, len: u32, flags: u32) -> [u32; 16]
     ensures { λ r. ⌜ r ≡ C.start h t len flags ⌝ }
 {
     [
@@ -246,7 +290,7 @@ fn start(h: [u32; 8], t: u64, len: u32, flags: u32) -> [u32; 16]
 }
 
 // The two halves of the state, word by word.
-fn fold(v: [u32; 16]) -> [u32; 8]
+pub fn fold(v: [u32; 16]) -> [u32; 8]
     ensures { λ r. ⌜ r ≡ C.fold v ⌝ }
 {
     [

@@ -9,11 +9,12 @@ ghost use Rattle.hasher.specs.Hash as B;
 ghost use Rattle.hasher.specs.Stack as S;
 ghost use Rattle.hasher.specs.State as T;
 ghost use Rattle.hasher.specs.Laws.{Laws};
-use compression::compress;
 use compression::iv;
 use compression::join;
 use compression::words_at;
 use compression::words_of;
+use unrolled::compress;
+use unrolled::compress_in_place;
 
 const BLOCK_LEN: usize = 64;
 
@@ -179,8 +180,8 @@ fn chain(cv: [u32; 8], s: &[u8], at: usize, n: usize, t: u64, blocks: u32) -> [u
     let mut c = cv;
     for i in 0..n {
         let flag = start_flag(blocks + (i as u32));
-        let next = compress(c, words_at(s, at + BLOCK_LEN * i), t, 64, flag);
-        c = next;
+        let m = words_at(s, at + BLOCK_LEN * i);
+        compress_in_place(&mut c, m, t, 64, flag);
     }
     c
 }

@@ -41,11 +41,11 @@ loop-holds c = let a = c .before .args in (search needs, begins (a .s .now) (a .
 
 loop-again : tie.Need-loop-again Inv-loop μ-loop
 loop-again c =
-    let a = c .before .before .before .before .before .before .args in
-    let l = c .before .before .before .before .loop in (
+    let a = c .before .before .before .before .before .before .before .args in
+    let l = c .before .before .before .before .before .loop in (
       search needs,
       turn (a .s .now) (l .c) (a .at) (a .n) (a .t) (a .blocks) (l .i) (search needs)
-          (c .before .before .start-flag .ensures .0) (c .before .words-at .ensures) (c .compress .ensures) ∙ l .inv .1,
+          (c .before .before .before .start-flag .ensures .0) (c .before .before .words-at .ensures) (c .compress-in-place .ensures) ∙ l .inv .1,
     )
 
 returns : tie.Need-returns Inv-loop μ-loop
