@@ -7,9 +7,12 @@ ghost use Rattle.blake3.specs.Blake3.{hashFrom, hashAsked};
 use base::digest::Digest;
 use base::error::ContainerError;
 use hasher::Hasher;
+use hasher::one_chunk;
 
 // The most bytes that the hash is asked for alone.
 pub const HASH_LIMIT: usize = 261376;
+
+const CHUNK_LEN: usize = 1024;
 
 pub enum HashAnswer {
     Refused(ContainerError),
@@ -22,6 +25,9 @@ pub fn hash(bytes: &[u8]) -> HashAnswer
 {
     if bytes.len() > HASH_LIMIT {
         return HashAnswer::Refused(ContainerError::TooLong);
+    }
+    if bytes.len() <= CHUNK_LEN {
+        return HashAnswer::Digest(Digest::from_words(one_chunk(bytes)));
     }
     HashAnswer::Digest(finish(Hasher::new().update(bytes)))
 }

@@ -1,3 +1,4 @@
 -- What the proofs of several functions share.
 pub mod Table
 pub mod ByRows
+pub mod Chain

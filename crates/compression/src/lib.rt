@@ -6,6 +6,9 @@ ghost use lib.ListN.{length, drop};
 ghost use Rattle.compression.specs.Word as W;
 ghost use Rattle.compression.specs.Compression as C;
 ghost use Rattle.compression.specs.Rows as R;
+ghost use Rattle.compression.specs.Chain.{startFlag};
+
+const CHUNK_START: u32 = 1;
 
 // The first 32 bits of the fractional parts of the square roots of the first eight primes.
 const IV: [u32; 8] = [
@@ -310,6 +313,13 @@ pub fn compress(h: [u32; 8], m: [u32; 16], t: u64, len: u32, flags: u32) -> [u32
     ensures { λ r. ⌜ r ≡ C.compress h m t len flags ⌝ }
 {
     fold(rounds(start(h, t, len, flags), m))
+}
+
+// The flag of a block that is no chunk's last: its number in the chunk is `blocks`.
+pub fn start_flag(blocks: u32) -> u32
+    ensures { λ r. ⌜ (r ≡ startFlag blocks) × (r ≤ 1) ⌝ }
+{
+    if blocks == 0 { CHUNK_START } else { 0 }
 }
 
 // The words of the block of s that starts at `at`.

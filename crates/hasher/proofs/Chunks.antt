@@ -1,17 +1,18 @@
 -- A chunk by its blocks, and a block by its bytes.
 use mathlib.Core.Path.{_≡_, refl, sym, ap, ap₂, _∙_}
 use mathlib.Core.List.{List, [], _∷_, _++_}
-use Prim.Native.Nat.{ℕ, zero, suc, _+_, _*_, _-_, _≤_, _<_}
+use Prim.Native.Nat.{ℕ, zero, suc, _+_, _*_, _-_, _/_, _≤_, _<_}
 use native.Mathlib.Omega.{arith}
 use native.Mathlib.Numerals.{add-one}
-use lib.ListN.{length, drop, set, replicate, length-append, length-drop}
-use lib.Seq.{take-append-le, drop-append-le, set-at, append-snoc}
+use lib.ListN.{length, getD, take, drop, set, replicate, length-append, length-drop, take-append-drop}
+use lib.Seq.{take-append-le, drop-append-le, length-take-le, take-suc, getD-drop, set-at, append-snoc}
 use borrow.Author.Tests.{le-leb, lt-leb}
 use Rattle.compression.specs.Word.{words}
-use Rattle.compression.specs.Compression.{compress}
+use Rattle.compression.specs.Compression.{iv, compress}
 use Rattle.compression.specs.Laws.{words-take}
-use Rattle.hasher.specs.Hash.{lastOf, chunkFrom}
-use Rattle.hasher.specs.State.{startFlag, chained}
+use Rattle.hasher.specs.Hash.{lastOf, chunkFrom, chunkOf}
+use Rattle.compression.specs.Chain.{startFlag, chained}
+use Rattle.hasher.specs.State.{filled}
 
 -- the words of a block are not those behind it
 words-append : (ds ps : List ℕ) → 64 ≤ length ds → words (ds ++ ps) ≡ words ds
@@ -59,12 +60,44 @@ chained-more (suc n) c t b ds ps e =
     ∙ chained-more n (compress c (words ds) t 64 (startFlag b)) t (b + 1) (drop 64 ds) ps (omega (arith, length-drop 64 ds))
     ∙ ap (λ (m : ℕ). compress (chained (suc n) c t b ds) (words ps) t 64 (startFlag m)) later
 
--- the block that holds the bytes ps, n of them
-abbrev pub filled : ℕ → List ℕ → List ℕ
-filled n ps = ps ++ replicate (64 - n) 0
-
 -- one byte more
 pub filled-more : (n : ℕ) (ps : List ℕ) (b : ℕ) → length ps ≡ n → n < 64 → set (filled n ps) n b ≡ filled (n + 1) (ps ++ (b ∷ []))
 filled-more n ps b e h =
     let one : 64 - n ≡ suc (64 - (n + 1)) = omega arith in
     rw one (set-at ps 0 (replicate (64 - (n + 1)) 0) b n e ∙ sym (append-snoc ps b (replicate (64 - (n + 1)) 0)))
+
+-- one more of the bytes of s from `at` on
+pub rest-more : (s : List ℕ) (at i : ℕ) {block : List ℕ} → i < length s - at → length s ≤ at + 64 → block ≡ filled i (take i (drop at s))
+    → set block i (getD s (at + i) 0) ≡ filled (i + 1) (take (i + 1) (drop at s))
+rest-more s at i p q e =
+    let ps : List ℕ = take i (drop at s) in
+    let rest = length-drop at s in
+    let next : take (i + 1) (drop at s) ≡ ps ++ (getD s (at + i) 0 ∷ []) =
+    rw (add-one i) (take-suc (drop at s) i 0 (omega arith)) ∙ ap (λ (b : ℕ). ps ++ (b ∷ [])) (getD-drop at s i 0) in
+    ap (λ (x : List ℕ). set x i (getD s (at + i) 0)) e
+    ∙ filled-more i ps (getD s (at + i) 0) (length-take-le i (drop at s) (omega arith)) (omega arith)
+    ∙ ap (filled (i + 1)) (sym next)
+
+-- ---- an input of at most one chunk
+
+-- whole blocks do not depend on what is behind them
+chained-front : (n : ℕ) (c : List ℕ) (t b : ℕ) (ds ps : List ℕ) → length ds ≡ 64 * n → chained n c t b (ds ++ ps) ≡ chained n c t b ds
+unfolding chained
+chained-front zero c t b ds ps e = refl
+chained-front (suc n) c t b ds ps e =
+    let one : 64 ≤ length ds = omega arith in
+    ap₂ (λ (w x : List ℕ). chained n (compress c w t 64 (startFlag b)) t (b + 1) x) (words-append ds ps one) (drop-append-le 64 ds ps one)
+    ∙ chained-front n (compress c (words ds) t 64 (startFlag b)) t (b + 1) (drop 64 ds) ps (omega (arith, length-drop 64 ds))
+
+-- its blocks before the last, and the last
+pub one-chunk : (s : List ℕ) (n : ℕ) → length s ≤ 1024 → n ≡ (length s - 1) / 64 → chunkOf 0 s ≡ lastOf (chained n iv 0 0 s) (startFlag n) 0 (drop (64 * n) s)
+one-chunk s n h e =
+    let ds : List ℕ = take (64 * n) s in
+    let ps : List ℕ = drop (64 * n) s in
+    let whole : length ds ≡ 64 * n = length-take-le (64 * n) s (omega arith) in
+    let rest = length-drop (64 * n) s in
+    let all = take-append-drop (64 * n) s in
+    let zero-more : 0 + n ≡ n = omega arith in
+    ap (chunkOf 0) (sym all)
+    ∙ chunk-blocks 15 n iv 0 0 ds ps (omega arith) whole (omega arith) (λ z. omega arith)
+    ∙ ap₂ (λ (c : List ℕ) (k : ℕ). lastOf c (startFlag k) 0 ps) (sym (chained-front n iv 0 0 ds ps whole) ∙ ap (chained n iv 0 0) all) zero-more

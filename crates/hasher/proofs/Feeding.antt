@@ -11,14 +11,11 @@ use borrow.Author.Tests.{lt-ltb, le-ltb}
 use Rattle.compression.specs.Word.{words}
 use Rattle.compression.specs.Compression.{compress}
 use Rattle.compression.specs.Laws.{words-take}
-use Rattle.hasher.specs.State.{noBlock, startFlag, nextBlock, nextChunk, chained, advanced, withRoom, absorbed, fed}
+use Rattle.wide.specs.Lanes.{chunkValue}
+use Rattle.compression.specs.Chain.{startFlag, chained}
+use Rattle.hasher.specs.State.{noBlock, nextBlock, chunkDone, nextChunk, advanced, withRoom, absorbed, fed}
 use Rattle.hasher.specs.declared.Hasher.{Hasher}
 use Rattle.hasher.proofs.Stacking.{lt-or-le}
-
--- a later block has no flag
-pub flag-later : (n : ℕ) → (n ≡ 0 → ⊥) → startFlag n ≡ 0
-flag-later zero h = absurd (h refl)
-flag-later (suc n) h = refl
 
 -- ---- a block taken in
 
@@ -31,7 +28,7 @@ unfolding advanced
 advanced-chunk h m p = rw (le-ltb (h .blocks) 15 p)
 
 pub advanced-len : (h : Hasher) (m : List ℕ) → advanced h m .len ≡ 0
-unfolding nextBlock nextChunk
+unfolding nextBlock chunkDone nextChunk
 advanced-len h m =
     ⊎-elim
     (λ (p : h .blocks < 15). rw (advanced-block h m p))
@@ -120,7 +117,7 @@ block-held h xs z l e =
 
 -- what is taken in does not depend on the block that the state holds
 advanced-holding : (h : Hasher) (b : List ℕ) (n : ℕ) (m : List ℕ) → advanced (holding h b n) m ≡ advanced h m
-unfolding advanced nextBlock nextChunk
+unfolding advanced nextBlock chunkDone nextChunk
 advanced-holding h b n m = refl
 
 -- a block with more behind it
@@ -159,3 +156,20 @@ chain-held (suc n) h c b s p q =
 pub fed-chain : (n : ℕ) (h : Hasher) (s : List ℕ) → h .len ≡ 0 → length (h .block) ≡ 64 → 0 < n → n + h .blocks ≤ 15 → 64 * n < length s
     → fed h s ≡ fed (emptied h (chained n (h .cv) (h .chunks) (h .blocks) s) (h .blocks + n)) (drop (64 * n) s)
 fed-chain n h s z l o p q = empty-first h s z l (omega arith) ∙ chain-held n h (h .cv) (h .blocks) s p q
+
+-- the chunk's last block
+ended : (h : Hasher) (s c : List ℕ) {n : ℕ} → n ≡ 15 → c ≡ chained 15 (h .cv) (h .chunks) 0 s
+    → nextChunk (emptied h c n) (words (drop 960 s)) ≡ chunkDone h (chunkValue (h .cv) (h .chunks) s)
+unfolding chunkDone nextChunk chunkValue
+ended h s c e q = rw (e, q)
+
+-- a whole chunk from its start on, with more behind it
+pub fed-chunk : (h : Hasher) (s : List ℕ) → h .len ≡ 0 → length (h .block) ≡ 64 → h .blocks ≡ 0 → 1024 < length s
+    → fed h s ≡ fed (chunkDone h (chunkValue (h .cv) (h .chunks) s)) (drop 1024 s)
+fed-chunk h s z l b p =
+    let c : List ℕ = chained 15 (h .cv) (h .chunks) (h .blocks) s in
+    let e : Hasher = emptied h c (h .blocks + 15) in
+    let n : h .blocks + 15 ≡ 15 = omega arith in
+    fed-chain 15 h s z l (omega arith) (omega arith) (omega arith)
+    ∙ fed-block e (drop 960 s) refl refl (omega (arith, length-drop 960 s))
+    ∙ ap₂ (λ (r : Hasher) (x : List ℕ). fed r x) (advanced-chunk e (words (drop 960 s)) (omega arith) ∙ ended h s c n (ap (λ (k : ℕ). chained 15 (h .cv) (h .chunks) k s) b)) (drop-drop 64 960 s)

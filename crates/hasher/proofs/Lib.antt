@@ -1,5 +1,6 @@
 pub mod Stacking
 pub mod Feeding
+pub mod Four
 pub mod Zeros
 pub mod Tree
 pub mod Chunks

@@ -13,10 +13,11 @@ use Rattle.compression.specs.Compression.{iv}
 use Rattle.compression.specs.Laws.{words-filled}
 use Rattle.hasher.specs.Hash.{valueOf, chunkOf, rootOf, hashWords}
 use Rattle.hasher.specs.Stack.{levels, under}
-use Rattle.hasher.specs.State.{start, nodeWith, nextBlock, nextChunk, chained, advanced, withRoom, absorbed, fed, finished}
+use Rattle.compression.specs.Chain.{chained}
+use Rattle.hasher.specs.State.{filled, start, nodeWith, nextBlock, chunkDone, nextChunk, advanced, withRoom, absorbed, fed, finished}
 use Rattle.hasher.specs.declared.Hasher.{Hasher}
 use Rattle.hasher.proofs.Tree.{treeFrom, tree-deeper, waiting-none, under-waiting}
-use Rattle.hasher.proofs.Chunks.{chunk-blocks, chained-more, filled, filled-more}
+use Rattle.hasher.proofs.Chunks.{chunk-blocks, chained-more, filled-more}
 use Rattle.hasher.proofs.Places.{Waits, waits-more}
 
 -- The state h has taken in the bytes bs: the finished chunks fs, the blocks ds of the current chunk, and ps in the block.
@@ -105,7 +106,7 @@ module _ (h : Hasher) (bs : List ℕ) (f : Holds h bs) where
 
   -- a full chunk is finished
   holds-chunk : h .len ≡ 64 → h .blocks ≡ 15 → h .chunks + 1 < 2 ^ levels → Holds (nextChunk h (words (h .block))) bs
-  unfolding nextChunk chained
+  unfolding chunkDone nextChunk chained
   holds-chunk l k few =
       let size : length current ≡ 1024 = omega (arith, length-current) in
       let counted : (h .chunks + 1) % 2 ^ 64 ≡ h .chunks + 1 = omega arith in
@@ -129,7 +130,7 @@ module _ (h : Hasher) (bs : List ℕ) (f : Holds h bs) where
 
   -- more input follows
   holds-room : length bs < 1024 * 2 ^ levels → Holds (withRoom h) bs × (withRoom h .len < 64)
-  unfolding withRoom advanced nextBlock nextChunk
+  unfolding withRoom advanced nextBlock chunkDone nextChunk
   holds-room size = elim (decLt (h .len) 64) [
     | yes q ↦ rw (lt-ltb (h .len) 64 q) (f, q)
     | no q ↦

@@ -50,6 +50,14 @@ tree-deeper d e t bs h l =
     le-ind (λ (m : ℕ). treeFrom m t bs ≡ treeFrom d t bs) refl
     (λ m k q. tree-small m t bs (omega (arith, pow-mono k)) ∙ q) e l
 
+-- at most one chunk
+tree-none : (t : ℕ) (bs : List ℕ) → treeFrom 0 t bs ≡ chunkOf t bs
+unfolding node
+tree-none t bs = refl
+
+pub tree-chunk : (e t : ℕ) (bs : List ℕ) → length bs ≤ 1024 → treeFrom e t bs ≡ chunkOf t bs
+tree-chunk e t bs h = tree-deeper 0 e t bs (omega arith) (omega arith) ∙ tree-none t bs
+
 -- ---- the tree is the current chunk below the values that wait
 pub under-waiting : (d t n : ℕ) (fs cs : List ℕ) → length fs ≡ 1024 * n → n < 2 ^ d → length cs ≤ 1024 → (0 < n → 0 < length cs)
     → under (chunkOf (t + n) cs) (waiting d t fs) ≡ treeFrom d t (fs ++ cs)

@@ -1,12 +1,13 @@
 -- What feeding and finishing make of every state, also of one that no feeding made.
 use mathlib.Core.Bool.{cond}
-use mathlib.Core.List.{List, [], _∷_}
-use Prim.Native.Nat.{ℕ, zero, suc, _+_, _%_, _^_}
+use mathlib.Core.List.{List, [], _∷_, _++_}
+use Prim.Native.Nat.{ℕ, _+_, _-_, _%_, _^_}
 use lib.Dec.{ltb}
-use lib.ListN.{drop, set, replicate}
+use lib.ListN.{set, replicate}
 use lib.Count.{trailingZeros}
 use Rattle.compression.specs.Word.{words}
-use Rattle.compression.specs.Compression.{iv, compress, chunkStart, chunkEnd}
+use Rattle.compression.specs.Compression.{iv, compress, chunkEnd}
+use Rattle.compression.specs.Chain.{startFlag}
 use Rattle.hasher.specs.Hash.{valueOf, rootOf}
 use Rattle.hasher.specs.Stack.{valuesOf, under, pushed}
 use Rattle.hasher.specs.declared.Node.{Node}
@@ -19,14 +20,13 @@ noValue = record { words = replicate 8 0 }
 abbrev pub noBlock : List ℕ
 noBlock = replicate 64 0
 
+-- the block that holds the bytes ps, n of them
+abbrev pub filled : ℕ → List ℕ → List ℕ
+filled n ps = ps ++ replicate (64 - n) 0
+
 -- nothing was fed
 abbrev pub start : Hasher
 start = record { cv = iv; block = noBlock; len = 0; blocks = 0; stack = record { values = replicate 8 noValue; waiting = 0 }; chunks = 0 }
-
--- CHUNK_START for the first block of a chunk
-abbrev pub startFlag : ℕ → ℕ
-startFlag zero = chunkStart
-startFlag (suc n) = 0
 
 -- the node of the current chunk, m being its last block, of n bytes
 abbrev pub nodeWith : Hasher → List ℕ → ℕ → Node
@@ -44,24 +44,23 @@ nextBlock h m =
       chunks = h .chunks;
     }
 
--- the block m ends the current chunk: the chunk is finished, and waiting subtrees are joined as often as the finished chunk count has
--- trailing zero bits
-unfoldable pub nextChunk : Hasher → List ℕ → Hasher
-nextChunk h m =
+-- the current chunk is finished, c being its chaining value: waiting subtrees are joined as often as the finished chunk count has trailing
+-- zero bits
+unfoldable pub chunkDone : Hasher → List ℕ → Hasher
+chunkDone h c =
     let chunks = (h .chunks + 1) % 2 ^ 64 in
     record {
       cv = iv;
       block = noBlock;
       len = 0;
       blocks = 0;
-      stack = pushed (h .stack) (trailingZeros 64 chunks) (valueOf (nodeWith h m 64));
+      stack = pushed (h .stack) (trailingZeros 64 chunks) c;
       chunks = chunks;
     }
 
--- the chaining value behind n whole blocks of s, the first of them block number `blocks` of chunk t
-unfoldable pub chained : ℕ → List ℕ → ℕ → ℕ → List ℕ → List ℕ
-chained zero c t blocks s = c
-chained (suc n) c t blocks s = chained n (compress c (words s) t 64 (startFlag blocks)) t (blocks + 1) (drop 64 s)
+-- the block m ends the current chunk
+unfoldable pub nextChunk : Hasher → List ℕ → Hasher
+nextChunk h m = chunkDone h (valueOf (nodeWith h m 64))
 
 -- a chunk has 16 blocks
 unfoldable pub advanced : Hasher → List ℕ → Hasher

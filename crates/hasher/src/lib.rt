@@ -2,26 +2,29 @@
 // every one becomes.
 ghost use mathlib.Core.Path.{_≡_};
 ghost use mathlib.Core.List.{List};
-ghost use Prim.Native.Nat.{ℕ, _+_, _*_, _%_, _^_, _<_, _≤_, min};
+ghost use Prim.Native.Nat.{ℕ, _+_, _*_, _-_, _/_, _%_, _^_, _<_, _≤_, min};
 ghost use lib.ListN.{length, drop};
 ghost use Rattle.compression.specs.Word.{words};
+ghost use Rattle.compression.specs.Chain.{chained};
 ghost use Rattle.hasher.specs.Hash as B;
 ghost use Rattle.hasher.specs.Stack as S;
 ghost use Rattle.hasher.specs.State as T;
 ghost use Rattle.hasher.specs.Laws.{Laws};
 use compression::iv;
 use compression::join;
+use compression::start_flag;
 use compression::words_at;
 use compression::words_of;
 use unrolled::compress;
 use unrolled::compress_in_place;
+use wide::chunks4;
 
 const BLOCK_LEN: usize = 64;
 
+const FOUR_CHUNKS: usize = 4096;
+
 // The most values that wait.
 const LEVELS: usize = 8;
-
-const CHUNK_START: u32 = 1;
 
 const CHUNK_END: u32 = 2;
 
@@ -159,12 +162,6 @@ impl Stack {
     }
 }
 
-fn start_flag(blocks: u32) -> u32
-    ensures { λ r. ⌜ (r ≡ T.startFlag blocks) × (r ≤ 1) ⌝ }
-{
-    if blocks == 0 { CHUNK_START } else { 0 }
-}
-
 // The finished chunk count once one more is finished.
 fn counted(chunks: u64) -> u64
     ensures { λ r. ⌜ r ≡ (chunks + 1) % 2 ^ 64 ⌝ }
@@ -175,7 +172,7 @@ fn counted(chunks: u64) -> u64
 // The chaining value behind `n` whole blocks of `s` from `at` on, the first of them block number `blocks` of chunk `t`.
 fn chain(cv: [u32; 8], s: &[u8], at: usize, n: usize, t: u64, blocks: u32) -> [u32; 8]
     requires { ⌜ (at + 64 * n ≤ length (now s)) × (n + blocks ≤ 15) ⌝ }
-    ensures { λ r. ⌜ r ≡ T.chained n cv t blocks (drop at (now (s .entry))) ⌝ }
+    ensures { λ r. ⌜ r ≡ chained n cv t blocks (drop at (now (s .entry))) ⌝ }
 {
     let mut c = cv;
     for i in 0..n {
@@ -224,12 +221,31 @@ impl Hasher {
         }
     }
 
+    // The current chunk is finished, `value` being its chaining value.
+    fn chunk_done(self, value: [u32; 8]) -> Hasher
+        ensures { λ r. ⌜ r ≡ T.chunkDone self value ⌝ }
+    {
+        let stack = self.stack;
+        let before = self.chunks;
+        let chunks = counted(before);
+        let joins = u64::trailing_zeros(chunks);
+        let pushed = stack.push(joins, value);
+        Hasher {
+            cv: iv(),
+            block: [0u8; 64],
+            len: 0,
+            blocks: 0,
+            stack: pushed,
+            chunks: chunks,
+        }
+    }
+
     // The block belongs to the current chunk, which more input follows.
     fn advance(self, block: [u32; 16]) -> Hasher
         ensures { λ r. ⌜ r ≡ T.advanced self block ⌝ }
     {
-        let stack = self.stack;
         if self.blocks < 15 {
+            let stack = self.stack;
             let cv = self.cv;
             let next = compress(cv, block, self.counter(), 64, start_flag(self.blocks));
             return Hasher {
@@ -242,18 +258,7 @@ impl Hasher {
             };
         }
         let last = self.node(block, 64);
-        let before = self.chunks;
-        let chunks = counted(before);
-        let joins = u64::trailing_zeros(chunks);
-        let pushed = stack.push(joins, last.value());
-        Hasher {
-            cv: iv(),
-            block: [0u8; 64],
-            len: 0,
-            blocks: 0,
-            stack: pushed,
-            chunks: chunks,
-        }
+        self.chunk_done(last.value())
     }
 
     // More input follows: a full block is taken in.
@@ -293,6 +298,36 @@ impl Hasher {
         }
     }
 
+    // Four whole chunks of `s` from `at` on, side by side. More input follows them.
+    fn take_chunks(self, s: &[u8], at: usize) -> Hasher
+        requires { ⌜ (self .len ≡ 0) × (self .blocks ≡ 0) × (at + 4096 < length (now s)) ⌝ }
+        ensures { λ r. ⌜ T.fed r (drop (at + 4096) (now (s .entry))) ≡ T.fed self (drop at (now (s .entry))) ⌝ }
+    {
+        let cv = self.cv;
+        let values = chunks4(cv, s, at, self.counter());
+        let mut h = self;
+        for i in 0..4usize {
+            let value = values[i];
+            let next = h.chunk_done(value);
+            h = next;
+        }
+        h
+    }
+
+    // As `take_blocks`, and where a chunk starts four chunks at once.
+    fn take_whole(self, s: &[u8], at: usize) -> Step
+        requires { ⌜ (self .len ≡ 0) × (at + 64 < length (now s)) ⌝ }
+        ensures { λ r. ⌜ (T.fed (r .hasher) (drop (r .at) (now (s .entry))) ≡ T.fed self (drop at (now (s .entry)))) × (at < r .at) × (r .at < length (now (s .entry))) ⌝ }
+    {
+        if self.blocks == 0 && FOUR_CHUNKS < s.len() - at {
+            return Step {
+                hasher: self.take_chunks(s, at),
+                at: at + FOUR_CHUNKS,
+            };
+        }
+        self.take_blocks(s, at)
+    }
+
     // The bytes of `part`, for which the block has room.
     fn take_part(self, part: &[u8]) -> Hasher
         requires { ⌜ self .len + length (now part) ≤ 64 ⌝ }
@@ -319,7 +354,7 @@ impl Hasher {
             let room = h.with_room();
             let left = s.len() - at;
             if room.len == 0 && BLOCK_LEN < left {
-                let step = room.take_blocks(s, at);
+                let step = room.take_whole(s, at);
                 let next = step.hasher;
                 h = next;
                 at = step.at;
@@ -344,6 +379,56 @@ impl Hasher {
         let top = stack.root(last);
         top.root()
     }
+}
+
+// How many blocks of a chunk of `len` bytes stand before its last.
+fn before_last(len: usize) -> usize
+    ensures { λ r. ⌜ r ≡ (len - 1) / 64 ⌝ }
+{
+    if len == 0 { 0 } else { (len - 1) / BLOCK_LEN }
+}
+
+// The bytes of `s` from `at` on, in a block with zeros behind them.
+fn rest_of(s: &[u8], at: usize) -> [u8; 64]
+    requires { ⌜ (at ≤ length (now s)) × (length (now s) ≤ at + 64) ⌝ }
+    ensures { λ r. ⌜ r ≡ T.filled (length (now (s .entry)) - at) (drop at (now (s .entry))) ⌝ }
+{
+    let mut block = [0u8; 64];
+    let n = s.len() - at;
+    for i in 0..n {
+        block[i] = s[at + i];
+    }
+    block
+}
+
+// The words of the chunk's last block, which starts at `at`.
+fn last_words(s: &[u8], at: usize) -> [u32; 16]
+    requires { ⌜ (at ≤ length (now s)) × (length (now s) ≤ at + 64) ⌝ }
+    ensures { λ r. ⌜ r ≡ words (drop at (now (s .entry))) ⌝ }
+{
+    if s.len() - at == BLOCK_LEN {
+        return words_at(s, at);
+    }
+    words_of(rest_of(s, at))
+}
+
+// The eight words of the digest of at most one chunk. It has no state to keep.
+pub fn one_chunk(s: &[u8]) -> [u32; 8]
+    requires { ⌜ length (now s) ≤ 1024 ⌝ }
+    ensures { λ r. ⌜ r ≡ B.hashWords (now (s .entry)) ⌝ }
+{
+    let n = before_last(s.len());
+    let at = BLOCK_LEN * n;
+    let cv = chain(iv(), s, 0, n, 0, 0);
+    let block = last_words(s, at);
+    let last = Node {
+        cv: cv,
+        block: block,
+        counter: 0,
+        len: (s.len() - at) as u32,
+        flags: start_flag(n as u32) + CHUNK_END,
+    };
+    last.root()
 }
 
 // The claims of `specs/Laws.antt` hold. There is no code: the contract makes the check prove them.

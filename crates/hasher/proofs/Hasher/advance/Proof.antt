@@ -1,14 +1,10 @@
 -- `hasher::Hasher::advance` meets its contract. Assumes nothing.
 use mathlib.Core.Path.{_≡_}
 use mathlib.Core.List.{List}
-use Prim.Native.Nat.{ℕ, _+_, _%_, _^_, _≤_}
-use lib.Count.{trailingZeros}
-use Rattle.compression.specs.Compression.{iv}
+use Prim.Native.Nat.{ℕ, _≤_}
 use Rattle.hasher.specs.Hash.{valueOf}
-use Rattle.hasher.specs.Stack.{pushed}
-use Rattle.hasher.specs.State.{noBlock, nodeWith, nextBlock, nextChunk, advanced}
+use Rattle.hasher.specs.State.{nodeWith, nextBlock, chunkDone, nextChunk, advanced}
 use Rattle.hasher.specs.declared.Node.{Node}
-use Rattle.hasher.specs.declared.Stack.{Stack}
 use Rattle.hasher.specs.declared.Hasher.{Hasher}
 use Rattle.hasher.proofs.Feeding.{advanced-block, advanced-chunk}
 use borrow.Author.Needs.{needs}
@@ -20,16 +16,15 @@ unfolding nextBlock
 returns c = let a = c .before .before .before .before .before .before .before .before .args in cc (advanced-block (a .self) (a .block) (search needs))
 
 -- the chunk's last block
-finishes : (h : Hasher) (m : List ℕ) {o : Node} {n : ℕ} {v i : List ℕ} {s : Stack} → 15 ≤ h .blocks → o ≡ nodeWith h m 64 → n ≡ (h .chunks + 1) % 2 ^ 64
-    → v ≡ valueOf o → s ≡ pushed (h .stack) (trailingZeros 64 n) v → i ≡ iv
-    → _≡_ {A = Hasher} (record { cv = i; block = noBlock; len = 0; blocks = 0; stack = s; chunks = n }) (advanced h m)
+finishes : (h : Hasher) (m : List ℕ) {o : Node} {v : List ℕ} {r : Hasher} → 15 ≤ h .blocks → o ≡ nodeWith h m 64 → v ≡ valueOf o → r ≡ chunkDone h v
+    → r ≡ advanced h m
 unfolding nextChunk
-finishes h m p eo en ev es ei = cc (advanced-chunk h m p)
+finishes h m p eo ev er = cc (advanced-chunk h m p)
 
 returns-2 : tie.Need-returns-2
 returns-2 c =
-    let a = c .before .before .before .before .before .before .before .before .args in
-    finishes (a .self) (a .block) (search needs) (c .before .before .before .before .node .ensures .0) (c .before .before .before .counted .ensures) (c .before .before .value .ensures) (c .before .push .ensures) (c .iv .ensures)
+    let a = c .before .before .before .before .before .args in
+    finishes (a .self) (a .block) (search needs) (c .before .before .node .ensures .0) (c .before .value .ensures) (c .chunk-done .ensures)
 
 pub advance-spec : {M : Type 1} → statement M
 advance-spec =
@@ -40,8 +35,6 @@ advance-spec =
     (λ c κs. search needs)
     (λ c. search needs)
     returns
-    (λ c κs. search needs)
-    (λ c κs. search needs)
     (λ c κs. search needs)
     (λ c κs. search needs)
     (λ c κs. search needs)

@@ -6,7 +6,8 @@ use native.Mathlib.Omega.{arith}
 use lib.ListN.{length, drop, length-drop}
 use lib.Seq.{drop-drop}
 use Rattle.compression.specs.Word.{words}
-use Rattle.hasher.specs.State.{noBlock, chained, advanced, fed}
+use Rattle.compression.specs.Chain.{chained}
+use Rattle.hasher.specs.State.{noBlock, advanced, fed}
 use Rattle.hasher.specs.declared.Hasher.{Hasher}
 use Rattle.hasher.proofs.Feeding.{fed-block, fed-chain}
 use borrow.Author.Needs.{needs}

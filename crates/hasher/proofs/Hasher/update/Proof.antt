@@ -31,15 +31,15 @@ same s h at p e = ap (λ (r : Hasher). fed r (drop at s)) e ∙ fed-room h (drop
 loop-holds : tie.Need-loop-holds Inv-loop μ-loop
 loop-holds c = (search needs, refl)
 
-take-blocks-requires : tie.Need-take-blocks-requires Inv-loop μ-loop
-take-blocks-requires c κs = (search needs, omega (arith, ltb-true))
+take-whole-requires : tie.Need-take-whole-requires Inv-loop μ-loop
+take-whole-requires c κs = (search needs, omega (arith, ltb-true))
 
 loop-again : tie.Need-loop-again Inv-loop μ-loop
 loop-again c =
     let s = c .before .before .before .before .before .before .before .before .before .args .s .now in
     let l = c .before .before .before .before .before .before .before .loop in
     let room = c .before .before .before .before .before .with-room .ensures .0 in
-    (search needs, c .before .take-blocks .ensures .0 ∙ same s (l .h) (l .at) (search needs) room ∙ l .inv .1)
+    (search needs, c .before .take-whole .ensures .0 ∙ same s (l .h) (l .at) (search needs) room ∙ l .inv .1)
 
 loop-again-2 : tie.Need-loop-again-2 Inv-loop μ-loop
 loop-again-2 c =
@@ -60,7 +60,7 @@ update-spec =
     loop-holds
     (λ c κs. search needs)
     (λ c. search needs)
-    take-blocks-requires
+    take-whole-requires
     (λ c. search needs)
     loop-again
     (λ c. search needs)

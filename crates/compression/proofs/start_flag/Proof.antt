@@ -1,9 +1,9 @@
--- `hasher::start_flag` meets its contract. Assumes nothing.
+-- `compression::start_flag` meets its contract. Assumes nothing.
 use mathlib.Core.Path.{sym}
-use Rattle.hasher.proofs.Feeding.{flag-later}
+use Rattle.compression.proofs.Chain.{flag-later}
 use borrow.Author.Needs.{needs}
-use Rattle.hasher.proofs.start_flag.Statement.{statement}
-use Rattle.hasher.proofs.start_flag.Tie as tie
+use Rattle.compression.proofs.start_flag.Statement.{statement}
+use Rattle.compression.proofs.start_flag.Tie as tie
 
 returns-2 : tie.Need-returns-2
 returns-2 c = (sym (flag-later _ (c .if1 .left)), search needs)
