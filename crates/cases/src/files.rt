@@ -32,23 +32,20 @@ pub fn copy(to: &mut [u8], from: &[u8], n: usize) {
     }
 }
 
-// A byte by its two digits.
-fn byte_of(high: u8, low: u8) -> u8 {
-    if high < 16 {
-        if low < 16 {
-            return 16 * high + low;
+// The byte whose two digits stand at a place of a text.
+fn byte_of(text: &[u8], i: usize) -> u8 {
+    if i < text.len() {
+        if 1 < text.len() - i {
+            let high = digit(text[i]);
+            let low = digit(text[i + 1]);
+            if high < 16 {
+                if low < 16 {
+                    return 16 * high + low;
+                }
+            }
         }
     }
     0
-}
-
-// The byte whose digits stand at a place of a text, if there are two.
-fn put_pair(file: &mut [u8], at: usize, text: &[u8], i: usize) {
-    if i < text.len() {
-        if 1 < text.len() - i {
-            put_byte(file, at, byte_of(digit(text[i]), digit(text[i + 1])));
-        }
-    }
 }
 
 fn behind_byte(at: usize) -> usize {
@@ -63,7 +60,7 @@ pub fn put(file: &mut [u8], at: usize, text: &[u8]) {
     let mut place = at;
     let mut i = 0;
     while i < text.len() {
-        put_pair(file, place, text, i);
+        put_byte(file, place, byte_of(text, i));
         place = behind_byte(place);
         i = i + 3;
     }

@@ -1,4 +1,5 @@
 // What is printed of an answer: a case's name, and the answer behind it.
+use crate::files::first;
 use base::error::ContainerError;
 use blake3::HashAnswer;
 use container::Container;
@@ -84,9 +85,15 @@ pub fn load(file: &[u8]) {
     }
 }
 
-// The hash alone of some bytes: it is given, or refused.
-pub fn hash_alone(bytes: &[u8]) {
-    match blake3::hash(bytes) {
+// A byte more than the hash is asked for.
+fn hash_room() -> [u8; 261377] {
+    [0; 261377]
+}
+
+// The hash alone of n zero bytes: it is given, or refused.
+pub fn hash_alone(n: usize) {
+    let zeros = hash_room();
+    match blake3::hash(first(&zeros, n)) {
         HashAnswer::Refused(e) => refused(e),
         HashAnswer::Digest(_) => word(b" hashed\n"),
     }

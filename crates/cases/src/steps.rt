@@ -1,8 +1,10 @@
 // The steps of the cases, line by line.
+use crate::asked::lookup_of;
 use crate::asked::over;
 use crate::files::copy;
 use crate::files::first;
 use crate::files::put;
+use crate::lines::index;
 use crate::lines::line_like;
 use crate::lines::number;
 use crate::lines::piece;
@@ -13,11 +15,11 @@ use crate::show::hash_alone;
 use crate::show::load;
 use crate::show::name;
 
-// How long are the file and the record's file, and how the record is altered.
+// How long are the file and the record's file, and whether the record has another size of its code.
 struct Now {
     file: usize,
     own: usize,
-    how: u8,
+    short_code: bool,
 }
 
 // The steps: the places of their words in the list of words, which starts with those of an empty line and of a note.
@@ -29,42 +31,29 @@ const LENGTH: u8 = 4;
 
 const RECORD: u8 = 5;
 
-const BARE: u8 = 6;
+const SHORT_CODE: u8 = 6;
 
-const SHORT_CODE: u8 = 7;
+const DO: u8 = 7;
 
-const DO: u8 = 8;
+const END: u8 = 8;
 
-const END: u8 = 9;
+const STOP: u8 = 9;
 
-const STOP: u8 = 10;
+const TITLE: u8 = 10;
 
-const TITLE: u8 = 11;
+const LOAD: u8 = 11;
 
-const LOAD: u8 = 12;
-
-const HASH_ALONE: u8 = 13;
+const HASH_ALONE: u8 = 12;
 
 fn step_of(line: &[u8]) -> u8 {
     place_among(
-        b" # zeros put length record bare short_code do: end stop title: load: hash_alone",
+        b" # zeros put length record short_code do: end stop title: load: hash_alone",
         line,
     )
 }
 
-// A byte more than the hash is asked for.
-fn hash_room() -> [u8; 261377] {
-    [0; 261377]
-}
-
-fn hash_limit(case: &[u8], n: usize) {
-    let zeros = hash_room();
-    name(case);
-    hash_alone(first(&zeros, n));
-}
-
 // A step that prints; any word that is no step's is a lookup's.
-fn printed(step: u8, line: &[u8], file: &[u8], own: &[u8], how: u8) {
+fn printed(step: u8, line: &[u8], file: &[u8], own: &[u8], short_code: bool) {
     match step {
         0..=STOP => {}
         TITLE => {
@@ -75,8 +64,21 @@ fn printed(step: u8, line: &[u8], file: &[u8], own: &[u8], how: u8) {
             name(text(line));
             load(file);
         }
-        HASH_ALONE => hash_limit(text(line), number(line, 1)),
-        _ => over(line, own, how, file),
+        HASH_ALONE => {
+            name(text(line));
+            hash_alone(number(line, 1));
+        }
+        _ => {
+            name(text(line));
+            over(
+                own,
+                short_code,
+                file,
+                lookup_of(line),
+                index(line, 1),
+                index(line, 2),
+            );
+        }
     }
 }
 
@@ -93,11 +95,16 @@ fn one(step: u8, line: &[u8], file: &mut [u8], own: &mut [u8], now: Now) -> Now 
         RECORD => {
             copy(own, file, n);
             next.own = n;
-            next.how = 0;
+            next.short_code = false;
         }
-        BARE => next.how = 1,
-        SHORT_CODE => next.how = 2,
-        _ => printed(step, line, first(file, n), first(own, now.own), now.how),
+        SHORT_CODE => next.short_code = true,
+        _ => printed(
+            step,
+            line,
+            first(file, n),
+            first(own, now.own),
+            now.short_code,
+        ),
     }
     next
 }
@@ -122,7 +129,7 @@ pub fn all(cases: &[u8], file: &mut [u8], own: &mut [u8]) {
     let mut now = Now {
         file: 0,
         own: 0,
-        how: 0,
+        short_code: false,
     };
     let mut at = 0;
     let mut back = 0;
