@@ -59,7 +59,7 @@ good-after zero s h = omega arith
 good-after (suc k) [] h = absurd (not-suc-le-zero h)
 good-after (suc k) (b ∷ s) h = let g = good-after k s (omega arith) in omega arith
 
-good-more : (s : List ℕ) (k : ℕ) → sequenceAt s ≡ suc k → goodLength s ≡ suc k + goodLength (drop (suc k) s)
+pub good-more : (s : List ℕ) (k : ℕ) → sequenceAt s ≡ suc k → goodLength s ≡ suc k + goodLength (drop (suc k) s)
 unfolding goodAfter goodLength
 good-more [] k e = absurd (not-suc-le-zero (sequence-front [] k e .fits))
 good-more (b ∷ s) k e =

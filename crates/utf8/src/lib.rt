@@ -2,8 +2,8 @@
 ghost use mathlib.Core.Bool.{cond};
 ghost use mathlib.Core.List.{[], _∷_};
 ghost use mathlib.Core.Path.{_≡_};
-ghost use Prim.Native.Nat.{_+_, _<_};
-ghost use lib.ListN.{length, drop};
+ghost use Prim.Native.Nat.{_+_, _≤_, _<_};
+ghost use lib.ListN.{length, drop, replicate};
 ghost use Rattle.utf8.specs.Laws.{Laws};
 ghost use Rattle.utf8.specs.Utf8.{_to_, starts, sequenceAt, goodLength, utf8};
 
@@ -75,6 +75,43 @@ fn sequence(s: &[u8], at: usize) -> usize
     }
 }
 
+// Whether sixteen bytes of ASCII stand at `at`. Each byte is tested, so that the compiler tests them all at once.
+fn sixteen(s: &[u8], at: usize) -> bool
+    requires { ⌜ at ≤ length (now s) ⌝ }
+    ensures { λ r. ⌜ r ≡ starts (replicate 16 (0x00 to 0x7F)) (drop at (now (s .entry))) ⌝ }
+{
+    if s.len() - at < 16 {
+        return false;
+    }
+    let mut ascii = true;
+    for k in 0..16usize {
+        if s[at + k] > 0x7F {
+            ascii = false;
+        }
+    }
+    ascii
+}
+
+// The place behind the ASCII from `at` on. Each byte of it is a sequence of its own, so that what is passed adds to the good length.
+fn past_ascii(s: &[u8], at: usize) -> usize
+    requires { ⌜ at ≤ length (now s) ⌝ }
+    ensures { λ r.
+        ⌜
+        (at ≤ r)
+        × (r ≤ length (now (s .entry)))
+        × (r + goodLength (drop r (now (s .entry))) ≡ at + goodLength (drop at (now (s .entry))))
+        ⌝ }
+{
+    let mut i = at;
+    while sixteen(s, i) {
+        i += 16;
+    }
+    while has(s, i, 0x00, 0x7F) {
+        i += 1;
+    }
+    i
+}
+
 // The length of the longest start of `s` that consists of whole well-formed sequences.
 pub fn good_length(s: &[u8]) -> usize
     ensures { λ r. ⌜ r ≡ goodLength (now (s .entry)) ⌝ }
@@ -86,6 +123,9 @@ pub fn good_length(s: &[u8]) -> usize
             break;
         }
         i += n;
+        if n == 1 {
+            i = past_ascii(s, i);
+        }
     }
     i
 }

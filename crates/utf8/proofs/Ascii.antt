@@ -1,0 +1,72 @@
+-- Runs of ASCII: how the test of a run goes on by one more byte, and that a run adds its length to the good length.
+-- Assumes nothing.
+use mathlib.Core.Bool.{Bool, true, false, _&&_, and-true, and-false, and-assoc}
+use mathlib.Core.List.{List, [], _∷_, List·Memᴰ·head}
+use mathlib.Core.Path.{_≡_, refl, sym, _∙_}
+use Prim.Native.Nat.{ℕ, zero, suc, _+_, _-_, _≤_, _<_}
+use native.Mathlib.Nat.{not-suc-le-zero}
+use native.Mathlib.Numerals.{add-one}
+use native.Mathlib.Omega.{arith}
+use lib.Dec.{T, leb→le}
+use lib.ListN.{length, drop, getD, replicate, length-drop, length-replicate}
+use lib.Seq.{drop-drop, getD-drop}
+use borrow.Author.Tests.{le-leb, lt-leb}
+use Rattle.utf8.specs.Utf8.{Range, _to_, within, starts, goodLength}
+use Rattle.utf8.proofs.Table.{left, right, lead}
+use Rattle.utf8.proofs.Longest.{good-more}
+
+-- a row of `n` bytes of ASCII
+abbrev pub ascii : ℕ → List Range
+ascii n = replicate n (0x00 to 0x7F)
+
+-- no text starts with a row that is longer
+too-short : (row : List Range) (x : List ℕ) → length x < length row → starts row x ≡ false
+too-short [] x h = absurd (not-suc-le-zero h)
+too-short (r ∷ row) [] h = refl
+too-short (r ∷ row) (b ∷ x) h = rw (too-short row x (omega arith)) (and-false (within r b))
+
+pub near-end : (n : ℕ) (s : List ℕ) (at : ℕ) → length s - at < n → false ≡ starts (ascii n) (drop at s)
+near-end n s at h =
+    let l = length-drop at s in
+    let m = length-replicate n (0x00 to 0x7F) in
+    sym (too-short (ascii n) (drop at s) (omega arith))
+
+-- one more byte
+one-more : (r : Range) (k : ℕ) (x : List ℕ) → k < length x → starts (replicate (suc k) r) x ≡ (starts (replicate k r) x && within r (getD x k 0))
+one-more r k [] h = absurd (not-suc-le-zero h)
+one-more r zero (b ∷ x) h = and-true (within r b)
+one-more r (suc k) (b ∷ x) h = rw (one-more r k x (omega arith)) (sym (and-assoc (within r b) (starts (replicate k r) x) (within r (getD x k 0))))
+
+one-more-at : (s : List ℕ) (at k : ℕ) → at + k < length s
+    → starts (ascii (k + 1)) (drop at s) ≡ (starts (ascii k) (drop at s) && within (0x00 to 0x7F) (getD s (at + k) 0))
+one-more-at s at k h =
+    let l = length-drop at s in
+    rw (add-one k, ← getD-drop at s k 0) (one-more (0x00 to 0x7F) k (drop at s) (omega arith))
+
+pub more : (s : List ℕ) (at k : ℕ) (a : Bool) → a ≡ starts (ascii k) (drop at s) → at + k < length s → getD s (at + k) 0 ≤ 0x7F → a ≡ starts (ascii (k + 1)) (drop at s)
+more s at k a e h b = e ∙ sym (rw (one-more-at s at k h, le-leb 0 (getD s (at + k) 0) (omega arith), le-leb _ _ b) (and-true (starts (ascii k) (drop at s))))
+
+pub other : (s : List ℕ) (at k : ℕ) → at + k < length s → 0x7F < getD s (at + k) 0 → false ≡ starts (ascii (k + 1)) (drop at s)
+other s at k h b = sym (rw (one-more-at s at k h, le-leb 0 (getD s (at + k) 0) (omega arith), lt-leb _ _ b) (and-false (starts (ascii k) (drop at s))))
+
+-- each byte of a run is a sequence of its own
+run : (n : ℕ) (x : List ℕ) → T (starts (ascii n) x) → (n ≤ length x) × (goodLength x ≡ n + goodLength (drop n x))
+run zero x t = (omega arith, omega arith)
+run (suc n) [] t = absurd t
+run (suc n) (b ∷ x) t =
+    let w : T (within (0x00 to 0x7F) b) = search left in
+    let h = run n x (search right) in
+    let e = lead (0x00 to 0x7F ∷ []) b x (List·Memᴰ·head refl) (omega arith, leb→le b 0x7F (search right)) in
+    let g = good-more (b ∷ x) 0 e in
+    (omega (arith, h .0), omega (arith, h .1))
+
+-- from the place `at` the place `i` is reached: what lies between adds its length to the good length of the rest
+abbrev pub Reached : List ℕ → ℕ → ℕ → Type 0
+Reached s at i = (at ≤ i) × (i ≤ length s) × (i + goodLength (drop i s) ≡ at + goodLength (drop at s))
+
+pub reach : (n : ℕ) (s : List ℕ) (at i : ℕ) (a : Bool) → Reached s at i → a ≡ starts (ascii n) (drop i s) → a ≡ true → Reached s at (i + n)
+reach n s at i a h e t =
+    let r = run n (drop i s) (rw (← e, t) tt) in
+    let l = length-drop i s in
+    let g : goodLength (drop i s) ≡ n + goodLength (drop (i + n) s) = rw (← drop-drop n i s) (r .1) in
+    (omega arith, omega (arith, r .0), omega arith)
