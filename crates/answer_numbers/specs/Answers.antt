@@ -4,5 +4,5 @@ use mathlib.Core.List.{List}
 use lib.ListN.{take}
 use Rattle.answer_numbers.specs.declared.Numbers.{Numbers}
 
-abbrev pub listed : Numbers → List ℕ
-listed n = take (n .count) (n .numbers)
+abbrev pub numbersIn : Numbers → List ℕ
+numbersIn n = take (n .count) (n .numbers)

@@ -1,10 +1,12 @@
 -- The numbers of a lookup by its kind; what is answered for a file that is refused or read.
 use Prim.Native.Nat.{ℕ, _+_, _≤_}
-use mathlib.Core.Path.{_≡_, sym}
+use mathlib.Core.Path.{_≡_, refl, sym}
 use mathlib.Core.List.{List, [], _∷_}
 use native.Mathlib.Omega.{arith}
 use lib.ListN.{getD, List·getD-eq-default}
-use Rattle.reading.specs.Answer.{refused, found}
+use Rattle.reading.specs.Answer.{Got, refused, found, _>>=_}
+use Rattle.format.specs.Parts.{Place}
+use Rattle.format.specs.Lookups.{EnumerationHead}
 use Rattle.format.specs.Record.{Container, readFrom}
 use Rattle.base.specs.Error.{faultOf}
 use Rattle.base.specs.Digest.{digestBytes}
@@ -17,7 +19,8 @@ use Rattle.container.specs.declared.ContainerAnswer.{ContainerAnswer}
 use Rattle.container.specs.declared.ContainerAnswer.the-variants as answer
 use Rattle.capi.specs.Asked.{lookups, lookedUp, asked, loaded, contentHash}
 use Rattle.capi.specs.Loaded.{recordNumbers}
-use Rattle.answer_numbers.specs.Fields.{refusalNumbers}
+use Rattle.debug_entries.specs.Answers.{withValues}
+use Rattle.answer_numbers.specs.Fields.{refusalNumbers, answered, enumerationNumbers}
 
 -- the lookup of the kind k; and a kind that is none
 module _ (f : List ℕ) (c : Container) where
@@ -60,3 +63,8 @@ module _ (f : List ℕ) {r : ContainerAnswer} {c : code.Container} (read : conta
   pub hash-found : contentHash f ≡ found (digestBytes (c .header .«content_hash»))
   unfolding contentHash
   hash-found = rw (← read, is)
+
+-- an enumeration's numbers are those of its head
+pub head-numbers : (base : ℕ) (x : Got (EnumerationHead Place)) → answered (λ e. enumerationNumbers (e .head)) (x >>= λ h. found (withValues base h)) ≡ answered enumerationNumbers x
+head-numbers base (refused e) = refl
+head-numbers base (found h) = refl

@@ -5,7 +5,7 @@ ghost use mathlib.Core.List.{_++_};
 ghost use lib.ListN.{length, drop};
 ghost use Rattle.base.specs.Digest.{digestBytes};
 ghost use Rattle.text.specs.Text.{Wrote};
-ghost use Rattle.answer_numbers.specs.Answers.{listed};
+ghost use Rattle.answer_numbers.specs.Answers.{numbersIn};
 ghost use Rattle.capi.specs.Lent.{Said};
 use answer_numbers::Numbers;
 use base::digest::Digest;
@@ -32,7 +32,7 @@ pub fn put(out: &mut [u64], at: usize, ns: &[u64]) -> usize
 
 // An answer at the start of the buffer, where there is room.
 pub fn say(out: &mut [u64], answer: Numbers) -> usize
-    ensures { λ r. ⌜ Said (now (out .entry)) (listed answer) (now (out .exit)) r ⌝ }
+    ensures { λ r. ⌜ Said (now (out .entry)) (numbersIn answer) (now (out .exit)) r ⌝ }
 {
     if out.len() < ROOM {
         return 0;

@@ -9,7 +9,7 @@ ghost use mathlib.Core.Path.{_≡_};
 ghost use Rattle.blake3.specs.Blake3.{hashAsked};
 ghost use Rattle.file_text.specs.Texts.{fileListing};
 ghost use Rattle.file_text.specs.Texts as texts;
-ghost use Rattle.answer_numbers.specs.Answers.{listed};
+ghost use Rattle.answer_numbers.specs.Answers.{numbersIn};
 ghost use Rattle.capi.specs.Asked.{asked, loaded, contentHash};
 ghost use Rattle.capi.specs.Lent.{Said, Told, Listed};
 use crate::lent::ROOM;
@@ -32,7 +32,7 @@ const NO_ROOM: usize = 255;
 
 // A lookup over a file and the record that reading it yields.
 fn ask(file: &[u8], kind: u16, index: u16, second: u16) -> Numbers
-    ensures { λ r. ⌜ listed r ≡ asked (now (file .entry)) kind index second ⌝ }
+    ensures { λ r. ⌜ numbersIn r ≡ asked (now (file .entry)) kind index second ⌝ }
 {
     match read_from(file) {
         ContainerAnswer::Refused(e) => refusal(e),

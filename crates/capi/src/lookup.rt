@@ -2,7 +2,7 @@
 ghost use Prim.Native.Nat.{_<_, _≤_};
 ghost use mathlib.Core.Path.{_≡_};
 ghost use Rattle.record.specs.Answers.{containerIn};
-ghost use Rattle.answer_numbers.specs.Answers.{listed};
+ghost use Rattle.answer_numbers.specs.Answers.{numbersIn};
 ghost use Rattle.capi.specs.Asked.{lookedUp};
 use answer_numbers::Numbers;
 use answer_numbers::array_numbers;
@@ -35,7 +35,7 @@ use container::Container;
 // Tasks and types.
 fn task_or_type(c: Container, file: &[u8], kind: u16, index: u16, second: u16) -> Numbers
     requires { ⌜ kind < 7 ⌝ }
-    ensures { λ r. ⌜ listed r ≡ lookedUp (now (file .entry)) (containerIn c) kind index second ⌝ }
+    ensures { λ r. ⌜ numbersIn r ≡ lookedUp (now (file .entry)) (containerIn c) kind index second ⌝ }
 {
     match kind {
         0 => task_numbers(c.task(file, index)),
@@ -51,7 +51,7 @@ fn task_or_type(c: Container, file: &[u8], kind: u16, index: u16, second: u16) -
 // Constants.
 fn constant(c: Container, file: &[u8], kind: u16, index: u16, second: u16) -> Numbers
     requires { ⌜ (7 ≤ kind) × (kind < 16) ⌝ }
-    ensures { λ r. ⌜ listed r ≡ lookedUp (now (file .entry)) (containerIn c) kind index second ⌝ }
+    ensures { λ r. ⌜ numbersIn r ≡ lookedUp (now (file .entry)) (containerIn c) kind index second ⌝ }
 {
     match kind {
         7 => constant_numbers(c.constant(file, ConstantIndex(index))),
@@ -69,7 +69,7 @@ fn constant(c: Container, file: &[u8], kind: u16, index: u16, second: u16) -> Nu
 // Code.
 fn function(c: Container, file: &[u8], kind: u16, index: u16, second: u16) -> Numbers
     requires { ⌜ (16 ≤ kind) × (kind < 18) ⌝ }
-    ensures { λ r. ⌜ listed r ≡ lookedUp (now (file .entry)) (containerIn c) kind index second ⌝ }
+    ensures { λ r. ⌜ numbersIn r ≡ lookedUp (now (file .entry)) (containerIn c) kind index second ⌝ }
 {
     match kind {
         16 => function_numbers(c.get_function(file, FunctionId(index))),
@@ -80,7 +80,7 @@ fn function(c: Container, file: &[u8], kind: u16, index: u16, second: u16) -> Nu
 // The debug tables.
 fn debug_entry(c: Container, file: &[u8], kind: u16, index: u16, second: u16) -> Numbers
     requires { ⌜ (18 ≤ kind) × (kind < 26) ⌝ }
-    ensures { λ r. ⌜ listed r ≡ lookedUp (now (file .entry)) (containerIn c) kind index second ⌝ }
+    ensures { λ r. ⌜ numbersIn r ≡ lookedUp (now (file .entry)) (containerIn c) kind index second ⌝ }
 {
     match kind {
         18 => line_numbers(c.lookup_source_location(file, FunctionId(index), second)),
@@ -96,7 +96,7 @@ fn debug_entry(c: Container, file: &[u8], kind: u16, index: u16, second: u16) ->
 
 // The lookup of a kind; no numbers for a kind that is none.
 pub fn lookup(c: Container, file: &[u8], kind: u16, index: u16, second: u16) -> Numbers
-    ensures { λ r. ⌜ listed r ≡ lookedUp (now (file .entry)) (containerIn c) kind index second ⌝ }
+    ensures { λ r. ⌜ numbersIn r ≡ lookedUp (now (file .entry)) (containerIn c) kind index second ⌝ }
 {
     if kind < 7 {
         return task_or_type(c, file, kind, index, second);

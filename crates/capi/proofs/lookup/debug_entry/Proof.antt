@@ -2,10 +2,11 @@
 use mathlib.Core.Path.{_∙_, ap}
 use native.Mathlib.Omega.{arith}
 use denote.Ref.{now}
+use Rattle.format.specs.Lookups.{debugAnswers}
 use Rattle.record.specs.Answers.{containerIn}
 use Rattle.capi.specs.Asked.{lookups}
 use Rattle.answer_numbers.specs.Fields.{answered, enumerationNumbers, functionNameNumbers, layoutNumbers, lineNumbers, partNumbers, sourceNumbers, variableNumbers}
-use Rattle.capi.proofs.Asking.{of-kind, past}
+use Rattle.capi.proofs.Asking.{of-kind, past, head-numbers}
 use borrow.Author.Needs.{needs}
 use Rattle.capi.proofs.lookup.debug_entry.Statement.{statement}
 use Rattle.capi.proofs.lookup.debug_entry.Tie as tie
@@ -36,7 +37,7 @@ returns-6 c = let a = c .before .before .before .before .args in of-kind (now (a
 
 returns-7 : tie.Need-returns-7
 unfolding lookups
-returns-7 c = let a = c .before .before .before .before .args in of-kind (now (a .file)) (containerIn (a .c)) 24 (a .kind) (a .index) (a .second) (c .before .before .match .keys7) (c .enumeration-numbers .ensures ∙ ap (answered enumerationNumbers) (c .before .enumeration .ensures .0))
+returns-7 c = let a = c .before .before .before .before .args in of-kind (now (a .file)) (containerIn (a .c)) 24 (a .kind) (a .index) (a .second) (c .before .before .match .keys7) (c .enumeration-numbers .ensures ∙ ap (answered (λ e. enumerationNumbers (e .head))) (c .before .enumeration .ensures) ∙ head-numbers _ (debugAnswers (now (a .file)) (containerIn (a .c)) .enumeration (a .index)))
 
 returns-8 : tie.Need-returns-8
 unfolding lookups
