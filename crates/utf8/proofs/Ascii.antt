@@ -7,10 +7,10 @@ use Prim.Native.Nat.{ℕ, zero, suc, _+_, _-_, _≤_, _<_}
 use native.Mathlib.Nat.{not-suc-le-zero}
 use native.Mathlib.Numerals.{add-one}
 use native.Mathlib.Omega.{arith}
-use lib.Dec.{T, leb→le}
+use lib.Dec.{T, eqb, leb→le}
 use lib.ListN.{length, drop, getD, replicate, length-drop, length-replicate}
 use lib.Seq.{drop-drop, getD-drop}
-use borrow.Author.Tests.{le-leb, lt-leb}
+use borrow.Author.Tests.{le-leb, lt-leb, eqb-true, eqb-false, eq-eqb, ne-eqb}
 use Rattle.utf8.specs.Utf8.{Range, _to_, within, starts, goodLength}
 use Rattle.utf8.proofs.Table.{left, right, lead}
 use Rattle.utf8.proofs.Longest.{good-more}
@@ -43,11 +43,29 @@ one-more-at s at k h =
     let l = length-drop at s in
     rw (add-one k, ← getD-drop at s k 0) (one-more (0x00 to 0x7F) k (drop at s) (omega arith))
 
-pub more : (s : List ℕ) (at k : ℕ) (a : Bool) → a ≡ starts (ascii k) (drop at s) → at + k < length s → getD s (at + k) 0 ≤ 0x7F → a ≡ starts (ascii (k + 1)) (drop at s)
-more s at k a e h b = e ∙ sym (rw (one-more-at s at k h, le-leb 0 (getD s (at + k) 0) (omega arith), le-leb _ _ b) (and-true (starts (ascii k) (drop at s))))
+-- so the count `n` of the bytes of ASCII among the first `k` equals `k` exactly if the text starts with a run of `k`
+eqb-more : (n k : ℕ) → eqb (n + 1) (k + 1) ≡ eqb n k
+eqb-more n k = by-cases (eqb n k) refl
+  where
+    by-cases : (b : Bool) → eqb n k ≡ b → eqb (n + 1) (k + 1) ≡ b
+    by-cases true e = eq-eqb (n + 1) (k + 1) (omega (arith, eqb-true n k e))
+    by-cases false e = ne-eqb (n + 1) (k + 1) (λ q. eqb-false n k e (omega arith))
 
-pub other : (s : List ℕ) (at k : ℕ) → at + k < length s → 0x7F < getD s (at + k) 0 → false ≡ starts (ascii (k + 1)) (drop at s)
-other s at k h b = sym (rw (one-more-at s at k h, le-leb 0 (getD s (at + k) 0) (omega arith), lt-leb _ _ b) (and-false (starts (ascii k) (drop at s))))
+abbrev pub Counted : List ℕ → ℕ → ℕ → ℕ → Type 0
+Counted s at k n = (n ≤ k) × (eqb n k ≡ starts (ascii k) (drop at s))
+
+pub counted-more : (s : List ℕ) (at k n m : ℕ) → at + k < length s → Counted s at k n → getD s (at + k) 0 ≤ 0x7F → m ≡ n + 1 → Counted s at (k + 1) m
+counted-more s at k n m h c b e = (
+  omega arith,
+  rw (e, eqb-more n k, one-more-at s at k h, le-leb 0 (getD s (at + k) 0) (omega arith), le-leb _ _ b) (c .1 ∙ sym (and-true (starts (ascii k) (drop at s)))),
+)
+
+pub counted-other : (s : List ℕ) (at k n m : ℕ) → at + k < length s → Counted s at k n → 0x7F < getD s (at + k) 0 → m ≡ n → Counted s at (k + 1) m
+counted-other s at k n m h c b e = (
+  omega arith,
+  rw (e, ne-eqb n (k + 1) (λ q. omega arith), one-more-at s at k h, le-leb 0 (getD s (at + k) 0) (omega arith), lt-leb _ _ b)
+      (sym (and-false (starts (ascii k) (drop at s)))),
+)
 
 -- each byte of a run is a sequence of its own
 run : (n : ℕ) (x : List ℕ) → T (starts (ascii n) x) → (n ≤ length x) × (goodLength x ≡ n + goodLength (drop n x))
@@ -70,3 +88,10 @@ reach n s at i a h e t =
     let l = length-drop i s in
     let g : goodLength (drop i s) ≡ n + goodLength (drop (i + n) s) = rw (← drop-drop n i s) (r .1) in
     (omega arith, omega (arith, r .0), omega arith)
+
+-- a place with a byte of ASCII is not one without
+pub further : (s : List ℕ) (i r : ℕ) (a : Bool) → a ≡ starts (ascii 1) (drop i s) → a ≡ true → starts (ascii 1) (drop r s) ≡ false → r ≡ i → ⊥
+further s i r a e t f q =
+    let g : starts (ascii 1) (drop i s) ≡ false = rw q at f in
+    let z : _≡_ {A = ℕ} 0 1 = cc in
+    omega arith

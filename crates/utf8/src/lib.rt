@@ -1,5 +1,5 @@
 // UTF-8, by Unicode's table of well-formed byte sequences (The Unicode Standard, table 3-7).
-ghost use mathlib.Core.Bool.{cond};
+ghost use mathlib.Core.Bool.{false, cond};
 ghost use mathlib.Core.List.{[], _∷_};
 ghost use mathlib.Core.Path.{_≡_};
 ghost use Prim.Native.Nat.{_+_, _≤_, _<_};
@@ -75,7 +75,8 @@ fn sequence(s: &[u8], at: usize) -> usize
     }
 }
 
-// Whether sixteen bytes of ASCII stand at `at`. Each byte is tested, so that the compiler tests them all at once.
+// Whether sixteen bytes of ASCII stand at `at`. All are counted, with no way out at the first other byte, so that the compiler tests
+// them at once.
 fn sixteen(s: &[u8], at: usize) -> bool
     requires { ⌜ at ≤ length (now s) ⌝ }
     ensures { λ r. ⌜ r ≡ starts (replicate 16 (0x00 to 0x7F)) (drop at (now (s .entry))) ⌝ }
@@ -83,16 +84,16 @@ fn sixteen(s: &[u8], at: usize) -> bool
     if s.len() - at < 16 {
         return false;
     }
-    let mut ascii = true;
+    let mut n = 0usize;
     for k in 0..16usize {
-        if s[at + k] > 0x7F {
-            ascii = false;
+        if s[at + k] <= 0x7F {
+            n += 1;
         }
     }
-    ascii
+    n == 16
 }
 
-// The place behind the ASCII from `at` on. Each byte of it is a sequence of its own, so that what is passed adds to the good length.
+// The place behind the ASCII from `at` on. Each byte of ASCII is a sequence of its own, so what is passed adds to the good length.
 fn past_ascii(s: &[u8], at: usize) -> usize
     requires { ⌜ at ≤ length (now s) ⌝ }
     ensures { λ r.
@@ -100,6 +101,7 @@ fn past_ascii(s: &[u8], at: usize) -> usize
         (at ≤ r)
         × (r ≤ length (now (s .entry)))
         × (r + goodLength (drop r (now (s .entry))) ≡ at + goodLength (drop at (now (s .entry))))
+        × (starts (0x00 to 0x7F ∷ []) (drop r (now (s .entry))) ≡ false)
         ⌝ }
 {
     let mut i = at;
@@ -118,13 +120,14 @@ pub fn good_length(s: &[u8]) -> usize
 {
     let mut i = 0;
     loop {
-        let n = sequence(s, i);
-        if n == 0 {
-            break;
-        }
-        i += n;
-        if n == 1 {
+        if has(s, i, 0x00, 0x7F) {
             i = past_ascii(s, i);
+        } else {
+            let n = sequence(s, i);
+            if n == 0 {
+                break;
+            }
+            i += n;
         }
     }
     i

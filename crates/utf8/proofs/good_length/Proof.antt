@@ -5,6 +5,7 @@ use native.Mathlib.Omega.{arith}
 use lib.ListN.{length, drop}
 use borrow.Author.Needs.{needs}
 use Rattle.utf8.proofs.Longest.{Passed, good-none, turn}
+use Rattle.utf8.proofs.Ascii.{further}
 use Rattle.utf8.proofs.good_length.Statement.{statement}
 use Rattle.utf8.proofs.good_length.Tie as tie
 
@@ -14,34 +15,33 @@ Inv-loop s i₀ i = Passed s i
 abbrev μ-loop : tie.MeasureT-loop
 μ-loop s i₀ i = length s - i
 
-add-i : tie.Need-add-i Inv-loop μ-loop
-add-i c =
-    let h = turn _ _ _ (c .before .before .loop .inv) (c .before .sequence .ensures) (c .if1 .left) in
-    omega (arith, h .0)
-
-past-ascii-requires : tie.Need-past-ascii-requires Inv-loop μ-loop
-past-ascii-requires c κs = turn _ _ _ (c .before .before .before .loop .inv) (c .before .before .sequence .ensures) (c .before .if1 .left) .0
-
 loop-again : tie.Need-loop-again Inv-loop μ-loop
-loop-again c =
-    let h = turn _ _ _ (c .before .before .before .before .loop .inv) (c .before .before .before .sequence .ensures) (c .before .before .if1 .left) in
-    (omega (arith, h .0), omega (arith, h .1))
+loop-again c = (omega arith, omega arith)
 
 loop-less : tie.Need-loop-less Inv-loop μ-loop
-loop-less c = omega (arith, loop-again c .0)
+loop-less c =
+    let a = c .before .before .before .before .before .args in
+    let l = c .before .before .before .loop in
+    let n = further (a .s .now) (l .i) (c .past-ascii .result) _ (c .before .before .has .ensures) (c .before .if1 .taken) (c .past-ascii .ensures .3) in
+    omega arith
 
 loop-again-2 : tie.Need-loop-again-2 Inv-loop μ-loop
-loop-again-2 c = turn _ _ _ (c .before .before .before .loop .inv) (c .before .before .sequence .ensures) (c .before .if1 .left)
+loop-again-2 c = turn _ _ _ (c .before .before .before .before .loop .inv) (c .before .sequence .ensures) (c .if2 .left)
+
+add-i : tie.Need-add-i Inv-loop μ-loop
+add-i c = omega (arith, loop-again-2 c .0)
 
 loop-less-2 : tie.Need-loop-less-2 Inv-loop μ-loop
 loop-less-2 c = omega (arith, loop-again-2 c .0)
 
 returns : tie.Need-returns Inv-loop μ-loop
 returns c =
-    omega (arith, good-none (drop (c .before .before .loop .i) (c .before .before .before .before .args .s .now)) (sym (c .before .sequence .ensures) ∙ c .if1 .taken))
+    let a = c .before .before .before .before .before .before .args in
+    let l = c .before .before .before .before .loop in
+    omega (arith, good-none (drop (l .i) (a .s .now)) (sym (c .before .sequence .ensures) ∙ c .if2 .taken))
 
 pub good-length-spec : {M : Type 1} → statement M
 good-length-spec =
     tie.close
-    (tie.spec Inv-loop μ-loop (λ c. search needs) (λ c κs. search needs) add-i past-ascii-requires
-    loop-less loop-again loop-less-2 loop-again-2 returns)
+    (tie.spec Inv-loop μ-loop (λ c. search needs) (λ c κs. search needs) (λ c κs. search needs)
+    loop-less loop-again (λ c κs. search needs) add-i loop-less-2 loop-again-2 returns)

@@ -1,4 +1,5 @@
 -- `utf8::past_ascii` meets its contract: both loops keep it, and the measure is what is left of the text. Assumes nothing.
+use mathlib.Core.Path.{sym, _∙_}
 use Prim.Native.Nat.{_-_}
 use native.Mathlib.Omega.{arith}
 use lib.ListN.{length}
@@ -37,9 +38,14 @@ add-i-2 c = omega (arith, loop2-again c .1)
 loop2-less : tie.Need-loop2-less Inv-loop μ-loop Inv-loop2 μ-loop2
 loop2-less c = omega (arith, loop2-again c .1)
 
+returns : tie.Need-returns Inv-loop μ-loop Inv-loop2 μ-loop2
+returns c =
+    let l = c .before .before .loop2 in
+    (l .inv .0, l .inv .1, l .inv .2, sym (c .before .has .ensures) ∙ c .if2 .left)
+
 pub past-ascii-spec : {M : Type 1} → statement M
 past-ascii-spec =
     tie.close
     (tie.spec Inv-loop μ-loop Inv-loop2 μ-loop2 (λ c. search needs)
     (λ c κs. search needs) add-i loop-less loop-again (λ c. search needs)
-    (λ c κs. search needs) add-i-2 loop2-less loop2-again (λ c. search needs))
+    (λ c κs. search needs) add-i-2 loop2-less loop2-again returns)
