@@ -6,6 +6,7 @@ ghost use Prim.Native.Nat.{ℕ, _+_, _*_, _-_, _/_, _%_, _^_, _<_, _≤_, min};
 ghost use lib.ListN.{length, drop};
 ghost use Rattle.compression.specs.Word.{words};
 ghost use Rattle.compression.specs.Chain.{chained};
+ghost use Rattle.wide.specs.Lanes.{chunkValue};
 ghost use Rattle.hasher.specs.Hash as B;
 ghost use Rattle.hasher.specs.Stack as S;
 ghost use Rattle.hasher.specs.State as T;
@@ -20,6 +21,8 @@ use unrolled::compress_in_place;
 use wide::chunks4;
 
 const BLOCK_LEN: usize = 64;
+
+const CHUNK_LEN: usize = 1024;
 
 const FOUR_CHUNKS: usize = 4096;
 
@@ -183,6 +186,15 @@ fn chain(cv: [u32; 8], s: &[u8], at: usize, n: usize, t: u64, blocks: u32) -> [u
     c
 }
 
+// The chaining value of the whole chunk number `t`, which starts at `at` of `s`.
+fn chunk_value(cv: [u32; 8], s: &[u8], at: usize, t: u64) -> [u32; 8]
+    requires { ⌜ at + 1024 ≤ length (now s) ⌝ }
+    ensures { λ r. ⌜ r ≡ chunkValue cv t (drop at (now (s .entry))) ⌝ }
+{
+    let c = chain(cv, s, at, 15, t, 0);
+    compress(c, words_at(s, at + 960), t, 64, CHUNK_END)
+}
+
 impl Hasher {
     pub fn new() -> Hasher
         ensures { λ r. ⌜ r ≡ T.start ⌝ }
@@ -314,7 +326,17 @@ impl Hasher {
         h
     }
 
-    // As `take_blocks`, and where a chunk starts four chunks at once.
+    // A whole chunk of `s` from `at` on. More input follows it.
+    fn take_chunk(self, s: &[u8], at: usize) -> Hasher
+        requires { ⌜ (self .len ≡ 0) × (self .blocks ≡ 0) × (at + 1024 < length (now s)) ⌝ }
+        ensures { λ r. ⌜ T.fed r (drop (at + 1024) (now (s .entry))) ≡ T.fed self (drop at (now (s .entry))) ⌝ }
+    {
+        let cv = self.cv;
+        let value = chunk_value(cv, s, at, self.counter());
+        self.chunk_done(value)
+    }
+
+    // As `take_blocks`, and where a chunk starts four chunks at once, or one.
     fn take_whole(self, s: &[u8], at: usize) -> Step
         requires { ⌜ (self .len ≡ 0) × (at + 64 < length (now s)) ⌝ }
         ensures { λ r. ⌜ (T.fed (r .hasher) (drop (r .at) (now (s .entry))) ≡ T.fed self (drop at (now (s .entry)))) × (at < r .at) × (r .at < length (now (s .entry))) ⌝ }
@@ -323,6 +345,12 @@ impl Hasher {
             return Step {
                 hasher: self.take_chunks(s, at),
                 at: at + FOUR_CHUNKS,
+            };
+        }
+        if self.blocks == 0 && CHUNK_LEN < s.len() - at {
+            return Step {
+                hasher: self.take_chunk(s, at),
+                at: at + CHUNK_LEN,
             };
         }
         self.take_blocks(s, at)

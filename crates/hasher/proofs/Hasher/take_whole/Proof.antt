@@ -11,6 +11,23 @@ take-chunks-requires c κs = (search needs, search needs, omega (arith, ltb-true
 returns : tie.Need-returns
 returns c = (c .take-chunks .ensures, search needs, omega (arith, ltb-true))
 
+take-chunk-requires : tie.Need-take-chunk-requires
+take-chunk-requires c κs = (search needs, search needs, omega (arith, ltb-true))
+
+returns-2 : tie.Need-returns-2
+returns-2 c = (c .take-chunk .ensures, search needs, omega (arith, ltb-true))
+
 pub take-whole-spec : {M : Type 1} → statement M
 take-whole-spec =
-    tie.close (tie.spec (λ c. search needs) take-chunks-requires (λ c. search needs) returns (λ c κs. search needs) (λ c. search needs))
+    tie.close
+    (tie.spec
+    (λ c. search needs)
+    take-chunks-requires
+    (λ c. search needs)
+    returns
+    (λ c. search needs)
+    take-chunk-requires
+    (λ c. search needs)
+    returns-2
+    (λ c κs. search needs)
+    (λ c. search needs))
