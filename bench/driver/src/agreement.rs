@@ -8,6 +8,7 @@ use crate::files::File;
 use crate::listing;
 use crate::lookups::LOOKUPS;
 use crate::port::{self, NO_NUMBERS};
+use crate::reading::directory_and_runtime;
 
 pub fn read(file: &[u8]) -> Container {
     Container::read_from(&mut &file[..]).expect("the Rust loads the file")
@@ -28,30 +29,8 @@ pub fn rust_listing(file: &[u8]) -> String {
 }
 
 fn header_numbers(h: &FileHeader) -> Vec<u64> {
-    let places = [
-        [h.sig_section_offset, h.sig_section_size],
-        [h.debug_sig_offset, h.debug_sig_size],
-        [h.type_section_offset, h.type_section_size],
-        [h.task_section_offset, h.task_section_size],
-        [h.const_section_offset, h.const_section_size],
-        [h.code_section_offset, h.code_section_size],
-        [h.debug_section_offset, h.debug_section_size],
-    ];
-    let runtime = [
-        h.max_stack_depth.into(),
-        h.max_call_depth.into(),
-        h.num_variables.into(),
-        h.data_region_bytes,
-        h.num_temp_bufs.into(),
-        h.max_temp_buf_bytes,
-        h.num_functions.into(),
-        h.num_fb_types.into(),
-        h.input_image_bytes.into(),
-        h.output_image_bytes.into(),
-        h.memory_image_bytes.into(),
-    ];
     let start = [h.format_version.into(), h.profile.into(), h.flags.into()];
-    start.iter().chain(places.as_flattened()).chain(&runtime).map(|n| u64::from(*n)).collect()
+    start.iter().chain(&directory_and_runtime(h)).map(|n| u64::from(*n)).collect()
 }
 
 /// How many entries the tables have.

@@ -11,7 +11,7 @@ use ironplc_container::{Container, ContainerError};
 use crate::bytes::hex;
 use crate::listing;
 use crate::questions::Question;
-use crate::reading::{refusal, Reading, HASH_LIMIT};
+use crate::reading::{directory_and_runtime, refusal, Reading, HASH_LIMIT};
 
 type Answer = Result<String, String>;
 
@@ -29,36 +29,7 @@ fn shown<T: ToString>(answer: Result<T, ContainerError>) -> Answer {
 }
 
 fn header(h: &FileHeader) -> String {
-    let places = [
-        h.sig_section_offset,
-        h.sig_section_size,
-        h.debug_sig_offset,
-        h.debug_sig_size,
-        h.type_section_offset,
-        h.type_section_size,
-        h.task_section_offset,
-        h.task_section_size,
-        h.const_section_offset,
-        h.const_section_size,
-        h.code_section_offset,
-        h.code_section_size,
-        h.debug_section_offset,
-        h.debug_section_size,
-    ];
-    let runtime = [
-        h.max_stack_depth.into(),
-        h.max_call_depth.into(),
-        h.num_variables.into(),
-        h.data_region_bytes,
-        h.num_temp_bufs.into(),
-        h.max_temp_buf_bytes,
-        h.num_functions.into(),
-        h.num_fb_types.into(),
-        h.input_image_bytes.into(),
-        h.output_image_bytes.into(),
-        h.memory_image_bytes.into(),
-    ];
-    let numbers: Vec<String> = places.iter().chain(&runtime).map(u32::to_string).collect();
+    let numbers: Vec<String> = directory_and_runtime(h).iter().map(u32::to_string).collect();
     format!(
         "{} {} {} {} {} {} {} {} {} {}",
         h.magic,

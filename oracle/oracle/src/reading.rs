@@ -18,6 +18,40 @@ pub const LIMIT: usize = 65_536;
 /// Document 01: a hash asked alone over 261,376 bytes gives 10, too (added).
 pub const HASH_LIMIT: usize = 261_376;
 
+/// The numbers of a header from byte 136 on: offset and size of the seven sections, then the runtime parameters.
+pub fn directory_and_runtime(h: &FileHeader) -> Vec<u32> {
+    let places = [
+        h.sig_section_offset,
+        h.sig_section_size,
+        h.debug_sig_offset,
+        h.debug_sig_size,
+        h.type_section_offset,
+        h.type_section_size,
+        h.task_section_offset,
+        h.task_section_size,
+        h.const_section_offset,
+        h.const_section_size,
+        h.code_section_offset,
+        h.code_section_size,
+        h.debug_section_offset,
+        h.debug_section_size,
+    ];
+    let runtime = [
+        h.max_stack_depth.into(),
+        h.max_call_depth.into(),
+        h.num_variables.into(),
+        h.data_region_bytes,
+        h.num_temp_bufs.into(),
+        h.max_temp_buf_bytes,
+        h.num_functions.into(),
+        h.num_fb_types.into(),
+        h.input_image_bytes.into(),
+        h.output_image_bytes.into(),
+        h.memory_image_bytes.into(),
+    ];
+    places.iter().chain(&runtime).copied().collect()
+}
+
 pub enum Reading {
     Loaded(Box<Container>),
     Refused(String),
