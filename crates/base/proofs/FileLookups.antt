@@ -12,8 +12,9 @@ use borrow.Author.Tests.{eq-eqb, ne-eqb}
 use Rattle.reading.specs.Fault.{Fault, shortInput}
 use Rattle.reading.specs.Reader.{Read, fault, got, Reader}
 use Rattle.reading.specs.Answer.{Got, refused, found, _>>=_, need, itemOf}
-use Rattle.reading.specs.Places.{Next, ends, faulty, entry, nextOf, stepOf}
+use Rattle.reading.specs.Places.{Step, stops, item, Reads, Next, ends, faulty, entry, nextOf, stepOf}
 use Rattle.reading.specs.declared.Table.{Table}
+use Rattle.reading.proofs.Passing.{reads-told}
 use Rattle.reading.proofs.Width.{Needs, needs-at}
 use Rattle.format.specs.Faults.{tooLong, sectionSizeMismatch}
 use Rattle.format.specs.Parts.{limit, Place, cut, isInside, Inside, byPlace}
@@ -102,6 +103,10 @@ placed p body to size behind l h =
     rw (l, o)
 
 -- a step of a walk, over the section's bytes
+abbrev pub nextBy : {A : Type 0} → Table → Step A → Next A
+nextBy t (stops f) = faulty f
+nextBy t (item a m) = entry a (record { at = m; count = t .count - 1 })
+
 module _ {A : Type 0} (r : Reader A) (s : List ℕ) (t : Table) where
   pub step-ends : t .count ≡ 0 → ends ≡ stepOf r s t
   unfolding stepOf
@@ -120,6 +125,17 @@ module _ {A : Type 0} (r : Reader A) (s : List ℕ) (t : Table) where
       let d = length-drop m s in
       let n : length s - length (drop m s) ≡ m = omega arith in
       rw (ne-eqb (t .count) 0 h, k, n)
+
+  -- by what was read there, and what a `match` on the answer told
+  pub step-read : {v w : Step A} → (t .count ≡ 0 → ⊥) → v ≡ w → Reads r s (t .at) v → nextBy t w ≡ stepOf r s t
+  step-read {v} {w} h e q = go w (reads-told r s (t .at) e q)
+    where
+      go : (w : Step A) → Reads r s (t .at) w → nextBy t w ≡ stepOf r s t
+      go (stops f) q = step-stops h q
+      go (item a m) q = step-entry h (q .0) (q .1)
+
+  pub step-past : (w : ℕ) → Needs w r → 0 < w → (t .count ≡ 0 → ⊥) → length s < t .at → faulty shortInput ≡ stepOf r s t
+  step-past w e z h l = step-short e h (omega arith)
 
   -- a step over an entry leaves one entry fewer
   pub step-count : {a : A} {u : Table} → stepOf r s t ≡ entry a u → u .count ≡ t .count - 1

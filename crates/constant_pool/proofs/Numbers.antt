@@ -1,6 +1,6 @@
 -- Numbers and their bytes, low byte first; numbers in two's complement.
 use Prim.Native.Nat.{ℕ, zero, suc, _+_, _*_, _-_, _/_, _%_, _^_, _≤_, _<_}
-use native.Mathlib.Nat.{pow-succ', sub-zero, zero-add}
+use native.Mathlib.Nat.{sub-zero, zero-add}
 use native.Mathlib.Omega.{arith}
 use borrow.Author.Tests.{lt-ltb, le-ltb}
 use mathlib.Core.Path.{_≡_, refl, ap, _∙_}
@@ -13,7 +13,7 @@ use mir.Val.{hbits}
 use mir.Val.{toZ, SFits}
 use mir.ValLaws.{toZ-pos}
 use Rattle.reading.specs.Numbers.{le, bytesLe}
-use Rattle.reading.proofs.Le.{Bytes}
+use Rattle.reading.proofs.Le.{Bytes, le-all}
 use Rattle.format.specs.Constants.{signed}
 
 bytes-zero : (w : ℕ) → bytesLe w 0 ≡ replicate w 0
@@ -34,14 +34,6 @@ bytes-filled (suc w) (x ∷ b) h l =
     rw (low, high, ih, fill)
 
 -- a number taken apart and put together again: all of its bytes, and the first four of eight
-le-all : (w n : ℕ) → n < 256 ^ w → le (bytesLe w n) ≡ n
-unfolding bytesLe le
-le-all zero n h = omega arith
-le-all (suc w) n h =
-    let e : 256 ^ suc w ≡ 256 * 256 ^ w = rw pow-succ' in
-    let ih = le-all w (n / 256) (omega arith) in
-    omega arith
-
 pub le-eight : (n : ℕ) → n < 2 ^ 64 → le (take 8 (bytesLe 8 n)) ≡ n
 unfolding bytesLe
 le-eight n h = le-all 8 n h

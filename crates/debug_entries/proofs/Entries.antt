@@ -16,7 +16,8 @@ use Rattle.format.specs.Parts.{Place, Keep}
 use Rattle.format.specs.Debug.{name, path, Variable, variable, functionName, stringLayout, sourceFile, enumeration}
 use Rattle.debug_text.specs.Answers.{keepIn}
 use Rattle.debug_text.proofs.Texts.{name-needs, path-needs, name-ends}
-use Rattle.debug_text.proofs.Walks.{onStep, reads-stop, reads-on, goes-made}
+use Rattle.reading.proofs.Made.{goes-made}
+use Rattle.debug_text.proofs.Walks.{onStep, reads-stop, reads-on}
 use Rattle.debug_entries.specs.Answers.{EnumerationEntry, entryOf, enumerationEntry}
 
 -- What an entry needs to be there

@@ -22,7 +22,8 @@ use Rattle.debug_text.specs.Answers.{keepIn, debugFaultOf}
 use Rattle.debug_text.specs.Picked.{picked}
 use Rattle.debug_text.specs.declared.DebugFault.{DebugFault}
 use Rattle.debug_text.specs.declared.DebugFault.the-variants as debugFault
-use Rattle.debug_text.proofs.Walks.{picked-is, holds-made}
+use Rattle.reading.proofs.Made.{holds-made}
+use Rattle.debug_text.proofs.Walks.{picked-is}
 use Rattle.debug_entries.specs.Answers.{EnumerationEntry, withValues, entryOf, enumerationEntry}
 use Rattle.debug_tables.specs.Laws.{Standing}
 use Rattle.debug_tables.specs.declared.DebugTables.{DebugTables}

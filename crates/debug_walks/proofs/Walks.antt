@@ -15,7 +15,7 @@ use Rattle.format.proofs.Answers.{never, steps}
 use Rattle.format.proofs.Readers.{local-line}
 use Rattle.base.proofs.FileLookups.{sliced, step-ends, step-count}
 use Rattle.debug_text.specs.Answers.{keepIn}
-use Rattle.debug_text.proofs.Walks.{holds-made}
+use Rattle.reading.proofs.Made.{holds-made}
 use Rattle.debug_entries.specs.Answers.{entryOf, enumerationEntry}
 use Rattle.debug_entries.proofs.Giving as entries
 use Rattle.debug_section.specs.Lookups.{debugTablesAt}

@@ -13,7 +13,7 @@ use Rattle.reading.specs.Answer.{Got, refused, found, _>>=_, _>>_, need, indexe
 use Rattle.format.specs.Faults.{tooLong, invalidConstantIndex, noFunction, noDebug, noArray, sizeOverflow, noEntry}
 use Rattle.format.specs.Parts.{limit, Place, cut, Keep, byPlace}
 use Rattle.format.specs.Tasks.{Task, Program, TaskTable, taskTable}
-use Rattle.format.specs.Types.{Field, Array, UserFb, TypeTables, typeTables}
+use Rattle.format.specs.Types.{Field, FbType, Array, UserFb, TypeTables, typeTables}
 use Rattle.format.specs.Constants.{Constant, onConstant, constants, asNumber, signed, asString, charWidth}
 use Rattle.format.specs.Code.{Function, Code, codeOf, bytecodeOf}
 use Rattle.format.specs.Debug.{Line, Variable, onVariable, FunctionName, onFunctionName, StringLayout, SourceFile, onSourceFile, Tables, debugTables}
@@ -78,8 +78,11 @@ pub record FbTypeHead : Type 0 where
   pub id : ℕ
   pub fieldCount : ℕ
 
+abbrev pub fbTypeHeadOf : FbType → FbTypeHead
+fbTypeHeadOf b = record { id = b .id; fieldCount = length (b .fields) }
+
 abbrev pub fbTypeOf : ℕ → TypeTables → Got FbTypeHead
-fbTypeOf i t = indexed noEntry (t .fbTypes) i >>= λ b. found (record { id = b .id; fieldCount = length (b .fields) })
+fbTypeOf i t = indexed noEntry (t .fbTypes) i >>= λ b. found (fbTypeHeadOf b)
 
 abbrev pub fieldOf : ℕ → ℕ → TypeTables → Got Field
 fieldOf i j t = indexed noEntry (t .fbTypes) i >>= λ b. indexed noEntry (b .fields) j

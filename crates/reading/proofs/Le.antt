@@ -1,12 +1,12 @@
 -- The laws of numbers written low byte first, over any width.
-use Prim.Native.Nat.{ℕ, zero, suc, _+_, _*_, _-_, _^_, _≤_, _<_}
+use Prim.Native.Nat.{ℕ, zero, suc, _+_, _*_, _-_, _/_, _^_, _≤_, _<_}
 use native.Mathlib.Nat.{pow-succ', mul-assoc}
 use native.Mathlib.Omega.{arith}
 use mathlib.Core.Path.{_≡_, refl, ap, _∙_}
 use mathlib.Core.List.{List, [], _∷_, _++_}
 use lib.ListN.{length, take, drop, getD, replicate, length-drop}
 use lib.Seq.{take-add, drop-drop, length-take-le, drop-cons, getD-drop, take-nil}
-use Rattle.reading.specs.Numbers.{le, leAt}
+use Rattle.reading.specs.Numbers.{le, leAt, bytesLe}
 
 -- the bytes behind the first `length a` weigh 256 to that power
 pub le-append : (a b : List ℕ) → le (a ++ b) ≡ le a + 256 ^ length a * le b
@@ -82,3 +82,12 @@ le-step s i p h =
 
 pub le-drop-fits : (k : ℕ) (s : List ℕ) (i : ℕ) → Bytes s → length s ≤ i + k → le (drop i s) < 256 ^ k
 le-drop-fits k s i h g = le-fits k (drop i s) (bytes-drop s i h) (simp length-drop (omega arith))
+
+-- a number taken apart into bytes and put together again
+pub le-all : (w n : ℕ) → n < 256 ^ w → le (bytesLe w n) ≡ n
+unfolding bytesLe le
+le-all zero n h = omega arith
+le-all (suc w) n h =
+    let e : 256 ^ suc w ≡ 256 * 256 ^ w = rw pow-succ' in
+    let ih = le-all w (n / 256) (omega arith) in
+    omega arith

@@ -3,6 +3,7 @@ pub mod Parts
 pub mod Reading
 pub mod Width
 pub mod Passing
+pub mod Made
 pub mod Tables
 pub mod Sizes
 pub mod Local

@@ -8,7 +8,7 @@ use lib.ListN.{length, drop, length-drop}
 use Rattle.reading.specs.Fault.{Fault, shortInput}
 use Rattle.reading.specs.Numbers.{leAt}
 use Rattle.reading.specs.Reader.{fault, got, Reader, next, _>>=_, give, many, counted}
-use Rattle.reading.specs.Places.{Step, Reads, Way, stopsBy, onTo, Goes}
+use Rattle.reading.specs.Places.{Step, stops, item, Reads, Way, stopsBy, onTo, Goes}
 use Rattle.reading.proofs.Reading.{number-at, number-short}
 
 module _ {A : Type 0} (r : Reader A) (s : List ℕ) where
@@ -65,3 +65,11 @@ goes-told r s at e g = subst (λ x. Goes r s at x) e g
 
 pub reads-told : {A : Type 0} (r : Reader A) (s : List ℕ) (at : ℕ) {v w : Step A} → v ≡ w → Reads r s at v → Reads r s at w
 reads-told r s at e g = subst (λ x. Reads r s at x) e g
+
+-- a walk, by what was read at its place
+module _ {A : Type 0} (r : Reader A) (s : List ℕ) (n at i p : ℕ) where
+  pub walk-stop : (f : Fault) {v : Step A} → i < n → Passed r s n at i p → v ≡ stops f → Reads r s p v → many n r (drop at s) ≡ fault f
+  walk-stop f l k e g = passed-stop r s n at i p f l k (reads-told r s p e g)
+
+  pub walk-more : (a : A) (m : ℕ) {v : Step A} → i < n → Passed r s n at i p → v ≡ item a m → Reads r s p v → Passed r s n at (i + 1) m
+  walk-more a m l k e g = let h = reads-told r s p e g in passed-more r s n at i p a m l k (h .0) (h .1)

@@ -6,17 +6,17 @@ use Prim.Native.Nat.{ℕ, zero, suc, _+_, _*_, _≤_, _<_}
 use native.Mathlib.Nat.{mul-suc, mul-zero}
 use native.Mathlib.Decide.{decLe}
 use native.Mathlib.Omega.{arith}
-use lib.ListN.{length, drop, length-drop}
+use lib.ListN.{length, take, drop, length-drop}
 use lib.Seq.{drop-drop}
 use Rattle.reading.specs.Fault.{Fault}
 use Rattle.reading.specs.Numbers.{leAt}
 use Rattle.reading.specs.Reader.{Read, fault, got, Reader, next, give, number, many, counted}
-use Rattle.reading.specs.Answer.{refused, found, indexed}
-use Rattle.reading.specs.Places.{onTo, Goes, Holds, ends, entry}
+use Rattle.reading.specs.Answer.{Got, refused, found, indexed}
+use Rattle.reading.specs.Places.{Step, stops, item, Reads, onTo, Goes, Holds, ends, entry}
 use Rattle.reading.specs.declared.Table.{Table}
 use Rattle.reading.proofs.Le.{Bytes}
 use Rattle.reading.proofs.Reading.{never, both, number-fits}
-use Rattle.reading.proofs.Passing.{counted-short, counted-as}
+use Rattle.reading.proofs.Passing.{reads-told, counted-short, counted-as}
 use Rattle.reading.proofs.Width.{Width, width-many}
 
 -- the item at an index, read at `x`
@@ -26,16 +26,21 @@ pub record At {A : Type 0} (r : Reader A) (xs : List A) (k : ℕ) (x : List ℕ)
   pub reads : r x ≡ got item behind
   pub picked : (out : Fault) → indexed out xs k ≡ found item
 
--- the first of several items, and those behind it
-record Cons {A : Type 0} (r : Reader A) (n : ℕ) (x : List ℕ) (xs : List A) (rest : List ℕ) : Type 0 where
-  first : A
-  others : List A
-  middle : List ℕ
-  reads : r x ≡ got first middle
-  reads-others : many n r middle ≡ got others rest
-  all : xs ≡ first ∷ others
+-- what an item that was read makes of a lookup
+abbrev pub answerBy : {A : Type 0} → Step A → Got A
+answerBy (stops f) = refused f
+answerBy (item a m) = found a
 
-cons : {A : Type 0} (r : Reader A) (n : ℕ) (x : List ℕ) (xs : List A) (rest : List ℕ) → many (suc n) r x ≡ got xs rest → Cons r n x xs rest
+-- the first of several items, and those behind it
+pub record Cons {A : Type 0} (r : Reader A) (n : ℕ) (x : List ℕ) (xs : List A) (rest : List ℕ) : Type 0 where
+  pub first : A
+  pub others : List A
+  pub middle : List ℕ
+  pub reads : r x ≡ got first middle
+  pub reads-others : many n r middle ≡ got others rest
+  pub all : xs ≡ first ∷ others
+
+pub cons : {A : Type 0} (r : Reader A) (n : ℕ) (x : List ℕ) (xs : List A) (rest : List ℕ) → many (suc n) r x ≡ got xs rest → Cons r n x xs rest
 cons r n x xs rest e =
     let p = both (r x) e in
     let q = both (many n r (p .middle)) (p .second) in
@@ -56,6 +61,18 @@ module _ {A : Type 0} (r : Reader A) where
       let z : d .middle ≡ c .middle = cc (c .reads, d .reads) in
       let w = at-walked k n (c .middle) y (c .others) (d .others) rest (omega arith) (c .reads-others) (rw z at (d .reads-others)) in
       record { item = w .item; behind = w .behind; reads = w .reads; picked = λ out. ap (λ v. indexed out v (suc k)) (c .all) ∙ w .picked out }
+
+  -- k items that were passed are the first k
+  pub many-take : (k n : ℕ) (x y : List ℕ) (xs bs : List A) (rest : List ℕ) → k ≤ n → many n r x ≡ got xs rest → many k r x ≡ got bs y → bs ≡ take k xs
+  many-take zero n x y xs bs rest h e g = cc
+  many-take (suc k) zero x y xs bs rest h e g = absurd (omega arith)
+  many-take (suc k) (suc n) x y xs bs rest h e g =
+      let c = cons r n x xs rest e in
+      let d = cons r k x bs y g in
+      let z : d .middle ≡ c .middle = cc (c .reads, d .reads) in
+      let a : d .first ≡ c .first = cc (c .reads, d .reads) in
+      let w = many-take k n (c .middle) y (c .others) (d .others) rest (omega arith) (c .reads-others) (rw z at (d .reads-others)) in
+      rw (d .all, c .all, a, w)
 
   -- in a table of width w the item of index k stands at k times w
   pub at-width : {w : ℕ} → Width w r → (k n : ℕ) (x : List ℕ) (xs : List A) (rest : List ℕ) → k < n → many n r x ≡ got xs rest → At r xs k (drop (w * k) x)
@@ -98,6 +115,15 @@ module _ {A : Type 0} (r : Reader A) where
   pub at-reads : {xs : List A} {k : ℕ} {x : List ℕ} → At r xs k x → (f : Fault) → r x ≡ fault f → ⊥
   at-reads h f e = never (sym e ∙ h .reads)
 
+  -- the same by what was read at a place `p`, and what a `match` on the answer told
+  module _ {xs : List A} {k : ℕ} (s : List ℕ) (p : ℕ) (h : At r xs k (drop p s)) (out : Fault) where
+    at-is : (x : Step A) → Reads r s p x → answerBy x ≡ indexed out xs k
+    at-is (stops f) g = absurd (at-reads h f g)
+    at-is (item a m) g = sym (at-picked h a (drop m s) (g .1) out)
+
+    at-found : {v x : Step A} → v ≡ x → Reads r s p v → answerBy x ≡ indexed out xs k
+    at-found {v} {x} e g = at-is x (reads-told r s p e g)
+
   -- the same over the places of a section
   module _ (s : List ℕ) (t : Table) (xs : List A) (h : Holds r s t xs) where
     pub holds-walked : (k m : ℕ) → k < t .count → Goes (many k r) s (t .at) (onTo m) → At r xs k (drop m s)
@@ -105,6 +131,9 @@ module _ {A : Type 0} (r : Reader A) where
 
     pub holds-width : {w : ℕ} → Width w r → (k : ℕ) → k < t .count → At r xs k (drop (t .at + w * k) s)
     holds-width {w} hw k l = rw drop-drop at (at-width hw k (t .count) (drop (t .at) s) xs (h .rest) l (h .reads))
+
+    pub holds-found : {w : ℕ} → Width w r → (k : ℕ) → k < t .count → (out : Fault) {v x : Step A} → v ≡ x → Reads r s (t .at + w * k) v → answerBy x ≡ indexed out xs k
+    holds-found {w} hw k l out e g = at-found s (t .at + w * k) (holds-width hw k l) out e g
 
     -- and lies in the section
     pub holds-fits : {w : ℕ} → Width w r → 0 < w → (k : ℕ) → k < t .count → t .at + w * k + w ≤ length s

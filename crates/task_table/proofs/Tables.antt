@@ -9,11 +9,11 @@ use Rattle.reading.specs.Fault.{Fault, shortInput}
 use Rattle.reading.specs.Numbers.{leAt}
 use Rattle.reading.specs.Reader.{Read, fault, got, next, u16, give, many}
 use Rattle.reading.specs.Answer.{Got, refused, found, _>>=_, itemOf}
-use Rattle.reading.specs.Places.{onTo, Goes, Holds}
+use Rattle.reading.specs.Places.{Step, Reads, onTo, Goes, Holds}
 use Rattle.reading.specs.declared.Table.{Table}
 use Rattle.reading.proofs.Reading.{both, number-at}
 use Rattle.reading.proofs.Width.{Needs, width-number, needs-none, needs-bind, fixed-number, fixed-many, fixed-at, needs-at, fixed-width}
-use Rattle.reading.proofs.Tables.{many-length, holds-at, reaches, holds-width, holds-fits, holds-out, at-picked, at-reads}
+use Rattle.reading.proofs.Tables.{answerBy, many-length, holds-at, reaches, holds-width, holds-found, holds-fits, holds-out, at-picked}
 use Rattle.reading.proofs.Left.{stays-local, walk-gives}
 use Rattle.format.specs.Faults.{noEntry}
 use Rattle.format.specs.Tasks.{Task, task, Program, program, TaskTable, taskTable}
@@ -132,12 +132,8 @@ module _ (s : List ℕ) (c : TaskCounts) (e : found c ≡ taskCountsInside s) wh
       pub task-fits : 6 + 32 * k + 32 ≤ length s
       task-fits = holds-fits task s (taskEntries c) (counted .table .tasks) (counted .tasks) task-width (omega arith) k l
 
-      pub task-found : (a : Task) (t : List ℕ) → task (drop (6 + 32 * k) s) ≡ got a t → found a ≡ taskInside s k
-      task-found a t d =
-          rw (counted .reads) (sym (at-picked task (holds-width task s (taskEntries c) (counted .table .tasks) (counted .tasks) task-width k l) a t d noEntry))
-
-      pub task-never : (f : Fault) → task (drop (6 + 32 * k) s) ≡ fault f → ⊥
-      task-never f d = at-reads task (holds-width task s (taskEntries c) (counted .table .tasks) (counted .tasks) task-width k l) f d
+      pub task-found : {v x : Step Task} → v ≡ x → Reads task s (6 + 32 * k) v → answerBy x ≡ taskInside s k
+      task-found d g = rw (counted .reads) (holds-found task s (taskEntries c) (counted .table .tasks) (counted .tasks) task-width k l noEntry d g)
 
     -- the program at an index stands behind the tasks and the programs before it
     module _ (l : k < c .programs) where

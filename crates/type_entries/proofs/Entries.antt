@@ -1,7 +1,7 @@
 -- The entries of the type section: their widths, and what stands at a place by what the code read there.
 use mathlib.Core.Path.{_≡_, refl, sym, subst⁻¹, _∙_}
 use mathlib.Core.Bool.{Bool, true, false}
-use mathlib.Core.List.{List, []}
+use mathlib.Core.List.{List}
 use Prim.Native.Nat.{ℕ, _+_, _*_, _-_, _^_, _≤_, _<_}
 use native.Mathlib.Nat.{le-of-lt, lt-of-le-of-lt, mul-le-mul-left, mul-lt-mul-of-pos-right}
 use native.Mathlib.Omega.{arith}
@@ -12,16 +12,19 @@ use lib.ListN.{length, drop, length-drop}
 use borrow.Author.Tests.{le-leb, lt-leb, le-ltb, lt-ltb}
 use Rattle.reading.specs.Fault.{Fault, shortInput}
 use Rattle.reading.specs.Numbers.{leAt}
-use Rattle.reading.specs.Reader.{fault, got, _>>=_, _>>_, give, check, many, countedOrNone}
+use Rattle.reading.specs.Reader.{fault, got, Reader, next, _>>_, give, check, many, counted, countedOrNone}
 use Rattle.reading.specs.Answer.{refused, found, need}
-use Rattle.reading.proofs.Reading.{number-at}
+use Rattle.reading.specs.Places.{Step, stops, item, Reads, Way, stopsBy, onTo, Goes}
+use Rattle.reading.proofs.Reading.{then-then, number-at}
 use Rattle.reading.proofs.Width.{Width, Needs, Fixed, needs-none, needs-bind, width-check, width-bind, width-number, fixed-give, fixed-bind, fixed-number, fixed-many, fixed-at, needs-at}
-use Rattle.reading.proofs.Passing.{counted-as}
+use Rattle.reading.proofs.Passing.{goes-told, counted-short, counted-as}
+use Rattle.reading.proofs.Tables.{many-length}
 use Rattle.format.specs.Faults.{invalidFieldType, invalidArrayStride}
-use Rattle.format.specs.Types.{Field, field, fbType, Array, strideFits, array, UserFb, userFb}
+use Rattle.format.specs.Types.{field, fbType, Array, strideFits, array, UserFb, userFb}
+use Rattle.format.specs.Lookups.{fbTypeHeadOf}
 use Rattle.format.proofs.Answers.{never}
 use Rattle.base.specs.Small.{fieldTypeOf}
-use Rattle.type_entries.specs.Answers.{strideChecked}
+use Rattle.type_entries.specs.Answers.{fbTypeHead, strideChecked, tableAt}
 
 -- Widths
 
@@ -36,9 +39,12 @@ field-width =
     width-bind (width-number 1) λ r.
     width-bind (width-number 2) λ e. width-check (leb k 10) (invalidFieldType k) (record { kind = k; extra = e })
 
-pub fb-type-needs : Needs 4 fbType
+fb-type-needs : Needs 4 fbType
 unfolding fbType
 fb-type-needs = needs-bind (fixed-number 2) λ i. needs-bind (fixed-number 1) λ n. needs-bind (fixed-number 1) λ r. needs-none _
+
+pub head-needs : Needs 4 fbTypeHead
+head-needs x h = rw (fb-type-needs x h)
 
 pub array-needs : Needs 12 array
 unfolding array
@@ -101,18 +107,40 @@ module _ (s : List ℕ) (at kind extra : ℕ) (h : at + 4 ≤ length s) (k : kin
       go (yes i) = let z : n ≡ kind = cc (rw (le-leb kind 10 i) at t) in rw (field-head, le-leb kind 10 i, z)
       go (no i) = never (sym (rw (lt-leb kind 10 (omega arith)) at t))
 
--- an FB type is its head and the table of its fields
-module _ (s : List ℕ) (at id count : ℕ) (h : at + 4 ≤ length s) (i : id ≡ leAt 2 s at) (n : count ≡ leAt 1 s (at + 2)) where
-  fb-type-head : fbType (drop at s) ≡ (many count field >>= (λ fs. give (record { id = id; fields = fs }))) (drop (at + 4) s)
-  unfolding fbType
-  fb-type-head =
-      rw (number-at 2 s at (at + 2) refl (omega arith), number-at 1 s (at + 2) (at + 3) (omega arith) (omega arith), number-at 1 s (at + 3) (at + 4) (omega arith) h, i, n)
+-- An item that is made of how many others stand behind it, by where a walk over those goes
 
-  pub fb-type-stop : (f : Fault) → many count field (drop (at + 4) s) ≡ fault f → fbType (drop at s) ≡ fault f
-  fb-type-stop f e = rw (fb-type-head, e)
+abbrev pub itemBy : {B : Type 0} → B → Way → Step B
+itemBy b (stopsBy f) = stops f
+itemBy b (onTo m) = item b m
 
-  pub fb-type-whole : (fs : List Field) (m : ℕ) → many count field (drop (at + 4) s) ≡ got fs (drop m s) → fbType (drop at s) ≡ got (record { id = id; fields = fs }) (drop m s)
-  fb-type-whole fs m e = rw (fb-type-head, e)
+module _ {A B : Type 0} (f : ℕ → B) (q : Reader A) (n : ℕ) (r : Reader B) (s : List ℕ) (at to : ℕ) (e : r (drop at s) ≡ next (many n q (drop to s)) (λ xs. give (f (length xs)))) where
+  by-way : (w : Way) → Goes (many n q) s to w → Reads r s at (itemBy (f n) w)
+  by-way (stopsBy d) g = rw (e, g)
+  by-way (onTo m) g = (g .0, rw (e, g .1 .1, many-length q n (drop to s) (g .1 .0) (drop m s) (g .1 .1)))
+
+  by-walk : {v w : Way} → v ≡ w → Goes (many n q) s to v → Reads r s at (itemBy (f n) w)
+  by-walk {v} {w} d g = by-way w (goes-told (many n q) s to d g)
+
+-- an FB type by its head; a table by its count
+pub head-by-walk : (s : List ℕ) (at id n : ℕ) → at + 4 ≤ length s → id ≡ leAt 2 s at → n ≡ leAt 1 s (at + 2) → {v w : Way} → v ≡ w → Goes (many n field) s (at + 4) v
+    → Reads fbTypeHead s at (itemBy (record { id = id; fieldCount = n }) w)
+unfolding fbType
+head-by-walk s at id n h i k =
+    by-walk (λ c. record { id = id; fieldCount = c }) field n fbTypeHead s at (at + 4)
+    (rw (
+      number-at 2 s at (at + 2) refl (omega arith),
+      number-at 1 s (at + 2) (at + 3) (omega arith) (omega arith),
+      number-at 1 s (at + 3) (at + 4) (omega arith) h,
+      ← i,
+      ← k,
+    ) (then-then (many n field (drop (at + 4) s)) (λ fs. give (record { id = id; fields = fs })) (λ b. give (fbTypeHeadOf b))))
+
+pub table-by-walk : {A : Type 0} (r : Reader A) (s : List ℕ) (at n : ℕ) → at + 2 ≤ length s → n ≡ leAt 2 s at → {v w : Way} → v ≡ w → Goes (many n r) s (at + 2) v
+    → Reads (tableAt at (counted r)) s at (itemBy (record { at = at + 2; count = n }) w)
+table-by-walk r s at n h k = by-walk (λ c. record { at = at + 2; count = c }) r n (tableAt at (counted r)) s at (at + 2) (rw (counted-as r s at n h k))
+
+pub table-short : {A : Type 0} (r : Reader A) (s : List ℕ) (at : ℕ) → length s - at < 2 → tableAt at (counted r) (drop at s) ≡ fault shortInput
+table-short r s at h = rw (counted-short r s at h)
 
 module _ (s : List ℕ) (at : ℕ) (a : Array) (h : at + 12 ≤ length s) (k : a .kind ≡ leAt 1 s at) (n : a .elements ≡ leAt 4 s (at + 2)) (e : a .extra ≡ leAt 2 s (at + 6))
     (t : a .stride ≡ leAt 4 s (at + 8)) where
@@ -153,20 +181,21 @@ user-fb-whole s at u h i f o n =
       ← n,
     )
 
--- the user FBs: none, or a table that needs no walk
-pub users-none : (s : List ℕ) (at : ℕ) → length s < at + 2 → countedOrNone userFb (drop at s) ≡ got [] (drop at s)
+-- the table of user FBs: none, or a table that needs no walk
+pub users-none : (s : List ℕ) (at : ℕ) → length s < at + 2 → tableAt at (countedOrNone userFb) (drop at s) ≡ got (record { at = at + 2; count = 0 }) (drop at s)
 users-none s at h = let d = length-drop at s in rw (lt-ltb (length (drop at s)) 2 (omega arith))
 
 module _ (s : List ℕ) (at count : ℕ) (h : at + 2 ≤ length s) (n : count ≡ leAt 2 s at) where
   users-some : countedOrNone userFb (drop at s) ≡ many count userFb (drop (at + 2) s)
   users-some = let d = length-drop at s in rw (le-ltb (length (drop at s)) 2 (omega arith)) (counted-as userFb s at count h n)
 
-  pub users-short : length s - (at + 2) < 8 * count → countedOrNone userFb (drop at s) ≡ fault shortInput
-  users-short l = users-some ∙ needs-at (fixed-many count user-fb-fixed .short) s (at + 2) l
+  pub users-short : length s - (at + 2) < 8 * count → tableAt at (countedOrNone userFb) (drop at s) ≡ fault shortInput
+  users-short l = rw (users-some, needs-at (fixed-many count user-fb-fixed .short) s (at + 2) l)
 
-  pub users-whole : 8 * count ≤ length s - (at + 2) → (us : List UserFb) × (many count userFb (drop (at + 2) s) ≡ got us (drop (at + 2 + 8 * count) s))
-      × (countedOrNone userFb (drop at s) ≡ got us (drop (at + 2 + 8 * count) s))
-  users-whole l = let p = fixed-at (fixed-many count user-fb-fixed) s (at + 2) (omega arith) in (p .0, p .1, users-some ∙ p .1)
+  pub users-whole : 8 * count ≤ length s - (at + 2) → Reads (tableAt at (countedOrNone userFb)) s at (item (record { at = at + 2; count = count }) (at + 2 + 8 * count))
+  users-whole l =
+      by-way (λ c. record { at = at + 2; count = c }) userFb count (tableAt at (countedOrNone userFb)) s at (at + 2) (rw users-some) (onTo (at + 2 + 8 * count))
+      (omega arith, fixed-at (fixed-many count user-fb-fixed) s (at + 2) (omega arith))
 
 -- a product of two numbers of k bits has 2 k
 pub below : (k : ℕ) {a b : ℕ} → a < 2 ^ k → b < 2 ^ k → a * b < 2 ^ (k + k)

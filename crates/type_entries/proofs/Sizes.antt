@@ -1,21 +1,25 @@
 -- How many bytes tables take, and where their entries stand behind a count.
-use mathlib.Core.Path.{_≡_, refl, sym, ap, _∙_}
-use mathlib.Core.List.{List, [], _∷_}
+use mathlib.Core.Path.{_≡_, sym, ap, _∙_}
+use mathlib.Core.List.{List, []}
 use Prim.Native.Nat.{ℕ, zero, suc, _+_, _*_, _≤_}
 use native.Mathlib.Omega.{arith}
-use lib.ListN.{length, drop, length-drop}
+use lib.ListN.{length, take, drop, length-drop}
 use lib.Seq.{drop-drop}
-use Rattle.reading.specs.Numbers.{leAt}
+use Rattle.reading.specs.Fault.{Fault}
 use Rattle.reading.specs.Reader.{got, Reader, number, many, counted}
-use Rattle.reading.specs.Places.{onTo, Goes}
+use Rattle.reading.specs.Answer.{found, indexed}
+use Rattle.reading.specs.Places.{Step, item, Reads}
 use Rattle.reading.proofs.Reading.{both}
 use Rattle.reading.proofs.Width.{width-number}
-use Rattle.reading.proofs.Passing.{counted-as}
-use Rattle.reading.proofs.Tables.{many-length}
+use Rattle.reading.proofs.Passing.{reads-told}
+use Rattle.reading.proofs.Made.{made-gives}
+use Rattle.reading.proofs.Tables.{cons, many-length}
 use Rattle.reading.proofs.Sizes.{Takes, takes-width, takes-counted}
 use Rattle.format.specs.Types.{field, FbType, fbType, array}
+use Rattle.format.specs.Lookups.{FbTypeHead, fbTypeHeadOf}
+use Rattle.format.proofs.Answers.{never, same-found}
+use Rattle.type_entries.specs.Answers.{fbTypeHead}
 use Rattle.type_entries.specs.Starts.{fbTypeSize, fbTypesSize}
-use Rattle.type_entries.specs.Answers.{TableIs}
 use Rattle.type_entries.proofs.Entries.{field-width, array-width}
 
 pub arrays-take : Takes (λ xs. 2 + 12 * length xs) (counted array)
@@ -43,6 +47,12 @@ fields-left s b t e =
     let k = ap length (v .0) ∙ length-drop 1 (i .middle) in
     (moved field (sym l ∙ ap length x) z x y (f .first), omega (arith, u .1, v .1, w .1))
 
+-- so that a head that reads has the room of four bytes
+pub head-room : (s : List ℕ) (at : ℕ) {h : FbTypeHead} {m : ℕ} {v : Step FbTypeHead} → v ≡ item h m → Reads fbTypeHead s at v → at + 4 ≤ length s
+head-room s at {h} {m} e g =
+    let b = made-gives fbTypeHeadOf (fbType (drop at s)) h (drop m s) (reads-told fbTypeHead s at e g .1) in
+    omega (arith, fields-left (drop at s) (b .0) (drop m s) (b .1) .1, length-drop at s)
+
 fb-type-takes : Takes fbTypeSize fbType
 fb-type-takes =
     record {
@@ -53,32 +63,32 @@ fb-type-takes =
           (w .0 ∙ drop-drop (4 * length (b .fields)) 4 s, omega (arith, w .1, k .1));
     }
 
-fb-types-many : (n : ℕ) → Takes fbTypesSize (many n fbType)
+pub fb-types-many : (n : ℕ) → Takes fbTypesSize (many n fbType)
 fb-types-many zero = record { takes = λ s bs t e. let x : bs ≡ [] = cc in (cc (ap fbTypesSize x), omega (arith, ap fbTypesSize x)) }
 fb-types-many (suc n) =
     record {
       takes = λ s bs t e.
-          let p = both (fbType s) e in
-          let q = both (many n fbType (p .middle)) (p .second) in
-          let x : bs ≡ p .item ∷ q .item = cc in
-          let y : t ≡ q .middle = cc in
-          let u = fb-type-takes .takes s (p .item) (p .middle) (p .first) in
-          let v = fb-types-many n .takes (p .middle) (q .item) (q .middle) (q .first) in
-          let l = ap length (u .0) ∙ length-drop (fbTypeSize (p .item)) s in
-          (y ∙ v .0 ∙ ap (drop (fbTypesSize (q .item))) (u .0) ∙ drop-drop (fbTypesSize (q .item)) (fbTypeSize (p .item)) s ∙ ap (λ (l : List FbType). drop (fbTypesSize l) s) (sym x), omega (arith, ap fbTypesSize x, u .1, v .1));
+          let c = cons fbType n s bs t e in
+          let u = fb-type-takes .takes s (c .first) (c .middle) (c .reads) in
+          let v = fb-types-many n .takes (c .middle) (c .others) t (c .reads-others) in
+          let l = ap length (u .0) ∙ length-drop (fbTypeSize (c .first)) s in
+          (v .0 ∙ ap (drop (fbTypesSize (c .others))) (u .0) ∙ drop-drop (fbTypesSize (c .others)) (fbTypeSize (c .first)) s ∙ ap (λ (l : List FbType). drop (fbTypesSize l) s) (sym (c .all)), omega (arith, ap fbTypesSize (c .all), u .1, v .1));
     }
+
+-- the FB type of an index stands behind those before it
+pub fb-type-at : (i n : ℕ) (s : List ℕ) (bs : List FbType) (t : List ℕ) (b : FbType) (out : Fault) → many n fbType s ≡ got bs t → indexed out bs i ≡ found b
+    → (x : List ℕ) × (fbType (drop (fbTypesSize (take i bs)) s) ≡ got b x)
+fb-type-at i zero s bs t b out e h = let z : bs ≡ [] = cc in never (rw z at h)
+fb-type-at zero (suc n) s bs t b out e h =
+    let c = cons fbType n s bs t e in
+    let z : c .first ≡ b = same-found (rw (c .all) at h) in
+    (c .middle, c .reads ∙ ap (λ (a : FbType). got a (c .middle)) z)
+fb-type-at (suc i) (suc n) s bs t b out e h =
+    let c = cons fbType n s bs t e in
+    let p = fb-type-at i n (c .middle) (c .others) t b out (c .reads-others) (rw (c .all) at h) in
+    let u = fb-type-takes .takes s (c .first) (c .middle) (c .reads) .0 in
+    let k = fbTypesSize (take i (c .others)) in
+    (p .0, ap (λ (l : List FbType). fbType (drop (fbTypesSize (take (suc i) l)) s)) (c .all) ∙ ap fbType (sym (ap (drop k) u ∙ drop-drop k (fbTypeSize (c .first)) s)) ∙ p .1)
 
 pub fb-types-take : Takes (λ bs. 2 + fbTypesSize bs) (counted fbType)
 fb-types-take = takes-counted fb-types-many
-
--- a table that was walked over behind its count
-pub table-is : {A : Type 0} (r : Reader A) (s : List ℕ) (at n m : ℕ) → at + 2 ≤ length s → n ≡ leAt 2 s at → Goes (many n r) s (at + 2) (onTo m)
-    → TableIs (counted r) s at (record { at = at + 2; count = n }) m
-table-is r s at n m h e g =
-    record {
-      within = g .0;
-      entries = g .1 .0;
-      reads = counted-as r s at n h e ∙ g .1 .1;
-      place = refl;
-      count = sym (many-length r n (drop (at + 2) s) (g .1 .0) (drop m s) (g .1 .1));
-    }

@@ -10,51 +10,61 @@ use borrow.Author.Tests.{le-ltb, lt-ltb}
 use Rattle.reading.specs.Fault.{Fault}
 use Rattle.reading.specs.Reader.{fault, got, Reader, counted, countedOrNone}
 use Rattle.reading.specs.Answer.{refused, found, itemOf}
-use Rattle.reading.specs.Places.{leftOf, Holds}
+use Rattle.reading.specs.Places.{item, Reads, leftOf, Holds}
 use Rattle.reading.specs.declared.Table.{Table}
 use Rattle.reading.proofs.Reading.{both}
+use Rattle.reading.proofs.Made.{made-stops, made-gives}
 use Rattle.reading.proofs.Le.{Bytes, bytes-drop}
 use Rattle.reading.proofs.Parts.{same-place}
 use Rattle.reading.proofs.Tables.{counted-stands, counted-few}
 use Rattle.format.specs.Types.{FbType, fbType, Array, array, UserFb, userFb, TypeTables, typeTables}
 use Rattle.format.proofs.Answers.{same-found, steps, item-got}
 use Rattle.type_entries.specs.Starts.{fbTypesSize, typeStartsOf, typeStartsIn}
-use Rattle.type_entries.specs.Answers.{TableIs}
+use Rattle.type_entries.specs.Answers.{tableAt}
 use Rattle.type_entries.specs.declared.Tables.{Tables}
 use Rattle.type_entries.proofs.Sizes.{fb-types-take, arrays-take}
 
-table-same : (t : Table) (at count : ℕ) → t .at ≡ at → t .count ≡ count → t ≡ record { at = at; count = count }
-table-same t at count p q = ap (λ (i : ℕ). record { at = i; count = t .count }) p ∙ ap (λ (n : ℕ). record { at = at; count = n }) q
-
 -- the first fault of the three tables, or all three
 module _ (s : List ℕ) where
-  pub fb-types-stop : (f : Fault) → counted fbType s ≡ fault f → refused f ≡ typeStartsIn s
+  abbrev stands : {A : Type 0} → Reader (List A) → ℕ → Table → ℕ → Type 0
+  stands r at t m = Reads (tableAt at r) s at (item t m)
+
+  -- the entries of a table that was read
+  read-of : {A : Type 0} (r : Reader (List A)) (at : ℕ) (t : Table) (m : ℕ) → stands r at t m → (xs : List A) × (r (drop at s) ≡ got xs (drop m s)) × (record { at = at + 2; count = length xs } ≡ t)
+  read-of r at t m p = made-gives (λ xs. record { at = at + 2; count = length xs }) (r (drop at s)) t (drop m s) (p .1)
+
+  stop-of : {A : Type 0} (r : Reader (List A)) (at : ℕ) (f : Fault) → tableAt at r (drop at s) ≡ fault f → r (drop at s) ≡ fault f
+  stop-of r at f e = made-stops (λ xs. record { at = at + 2; count = length xs }) (r (drop at s)) f e
+
+  pub fb-types-stop : (f : Fault) → tableAt 0 (counted fbType) s ≡ fault f → refused f ≡ typeStartsIn s
   unfolding typeTables
-  fb-types-stop f e = rw e
+  fb-types-stop f e = rw (stop-of (counted fbType) 0 f e)
 
-  module _ (a : ℕ) (fbs : Table) (p : TableIs (counted fbType) s 0 fbs a) where
-    pub arrays-stop : (f : Fault) → counted array (drop a s) ≡ fault f → refused f ≡ typeStartsIn s
+  module _ (a : ℕ) (fbs : Table) (p : stands (counted fbType) 0 fbs a) where
+    pub arrays-stop : (f : Fault) → tableAt a (counted array) (drop a s) ≡ fault f → refused f ≡ typeStartsIn s
     unfolding typeTables
-    arrays-stop f e = rw (p .reads, e)
+    arrays-stop f e = rw (read-of (counted fbType) 0 fbs a p .1, stop-of (counted array) a f e)
 
-    module _ (u : ℕ) (rs : Table) (q : TableIs (counted array) s a rs u) where
-      pub user-fbs-stop : (f : Fault) → countedOrNone userFb (drop u s) ≡ fault f → refused f ≡ typeStartsIn s
+    module _ (u : ℕ) (rs : Table) (q : stands (counted array) a rs u) where
+      pub user-fbs-stop : (f : Fault) → tableAt u (countedOrNone userFb) (drop u s) ≡ fault f → refused f ≡ typeStartsIn s
       unfolding typeTables
-      user-fbs-stop f e = rw (p .reads, q .reads, e)
+      user-fbs-stop f e = rw (read-of (counted fbType) 0 fbs a p .1, read-of (counted array) a rs u q .1, stop-of (countedOrNone userFb) u f e)
 
-      pub tables-whole : (m : ℕ) (us : Table) → TableIs (countedOrNone userFb) s u us m → found (record { «fb_types» = fbs; arrays = rs; «user_fbs» = us }) ≡ typeStartsIn s
+      pub tables-whole : (m : ℕ) (us : Table) → stands (countedOrNone userFb) u us m → found (record { «fb_types» = fbs; arrays = rs; «user_fbs» = us }) ≡ typeStartsIn s
       unfolding typeTables
       tables-whole m us r =
-          let j = fb-types-take .takes s (p .entries) (drop a s) (p .reads) in
-          let k = arrays-take .takes (drop a s) (q .entries) (drop u s) (q .reads) in
+          let x = read-of (counted fbType) 0 fbs a p in
+          let y = read-of (counted array) a rs u q in
+          let z = read-of (countedOrNone userFb) u us m r in
+          let j = fb-types-take .takes s (x .0) (drop a s) (x .1) in
+          let k = arrays-take .takes (drop a s) (y .0) (drop u s) (y .1) in
           let d = length-drop a s in
-          let i = p .within in
-          let b : a ≡ 2 + fbTypesSize (p .entries) = same-place s a _ i (j .1) (j .0) in
-          let c : u ≡ a + (2 + 12 * length (q .entries)) = same-place s u _ (q .within) (omega (arith, k .1)) (k .0 ∙ drop-drop _ a s) in
-          let x = table-same fbs 2 (length (p .entries)) (p .place) (p .count) in
-          let y = table-same rs (4 + fbTypesSize (p .entries)) (length (q .entries)) (omega (arith, q .place)) (q .count) in
-          let z = table-same us (6 + fbTypesSize (p .entries) + 12 * length (q .entries)) (length (r .entries)) (omega (arith, r .place)) (r .count) in
-          rw (p .reads, q .reads, r .reads) (cc)
+          let i = p .0 in
+          let b : a ≡ 2 + fbTypesSize (x .0) = same-place s a _ i (j .1) (j .0) in
+          let c : u ≡ a + (2 + 12 * length (y .0)) = same-place s u _ (q .0) (omega (arith, k .1)) (k .0 ∙ drop-drop _ a s) in
+          let v : a + 2 ≡ 4 + fbTypesSize (x .0) = omega arith in
+          let w : u + 2 ≡ 6 + fbTypesSize (x .0) + 12 * length (y .0) = omega arith in
+          rw (x .1, y .1, z .1) (cc (x .2, y .2, z .2))
 
 -- A section that reads
 
@@ -113,12 +123,13 @@ standing s t h =
 pub record Readable (s : List ℕ) (u : Tables) : Type 0 where
   pub all : TypeTables
   pub is : itemOf (typeTables s) ≡ found all
+  pub starts : typeStartsOf all ≡ u
   pub stand : Standing s all u
 
 pub readable : (s : List ℕ) (u : Tables) → found u ≡ typeStartsIn s → Readable s u
 readable s u h =
     let k = steps (itemOf (typeTables s)) (sym h) in
-    record { all = k .item; is = k .first; stand = subst (Standing s (k .item)) (same-found (k .second)) (standing s (k .item) (k .first)) }
+    record { all = k .item; is = k .first; starts = same-found (k .second); stand = subst (Standing s (k .item)) (same-found (k .second)) (standing s (k .item) (k .first)) }
 
 -- of a list of bytes: each count has two
 users-few : (y : List ℕ) (us : List UserFb) (z : List ℕ) → Bytes y → countedOrNone userFb y ≡ got us z → length us < 65536

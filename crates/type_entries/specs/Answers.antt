@@ -1,15 +1,14 @@
 -- What the code's answers mean.
-use Prim.Native.Nat.{ℕ, _+_, _≤_}
+use Prim.Native.Nat.{ℕ, _+_}
 use mathlib.Core.List.{List}
-use mathlib.Core.Path.{_≡_}
-use lib.ListN.{length, drop}
-use Rattle.reading.specs.Reader.{Reader, fault, got}
+use lib.ListN.{length}
+use Rattle.reading.specs.Reader.{Reader, _>>=_, give}
 use Rattle.reading.specs.Answer.{Got, refused, found, need}
 use Rattle.reading.specs.Places.{Step, stops, item}
 use Rattle.reading.specs.declared.Table.{Table}
 use Rattle.format.specs.Faults.{invalidArrayStride}
 use Rattle.format.specs.Types.{Field, fbType, Array, strideFits, UserFb}
-use Rattle.format.specs.Lookups.{FbTypeHead}
+use Rattle.format.specs.Lookups.{FbTypeHead, fbTypeHeadOf}
 use Rattle.base.specs.Error.{faultOf}
 use Rattle.base.specs.Small.{fieldTypeNumber}
 use Rattle.type_entries.specs.declared.FieldEntry.{FieldEntry}
@@ -41,20 +40,19 @@ abbrev pub fieldStep : FieldStep → Step Field
 fieldStep (field-step.Refused e) = stops (faultOf e)
 fieldStep (field-step.Entry f m) = item (fieldIn f) m
 
--- FB types: the code has an FB type's head, and its fields read, as many as the head says
+-- FB types: the code reads an FB type with all its fields, and keeps the head
 
 abbrev pub fbTypeHeadIn : FbTypeDescriptor → FbTypeHead
 fbTypeHeadIn d = record { id = d .«type_id» .0; fieldCount = d .«num_fields» }
 
-pub record FbTypeIs (s : List ℕ) (at : ℕ) (d : FbTypeDescriptor) (m : ℕ) : Type 0 where
-  pub within : m ≤ length s
-  pub fields : List Field
-  pub count : length fields ≡ d .«num_fields»
-  pub reads : fbType (drop at s) ≡ got (record { id = d .«type_id» .0; fields = fields }) (drop m s)
+abbrev pub fbTypeHead : Reader FbTypeHead
+fbTypeHead = do
+  b ← fbType
+  give (fbTypeHeadOf b)
 
-abbrev pub FbTypeReads : List ℕ → ℕ → FbTypeStep → Type 0
-FbTypeReads s at (fb-type-step.Refused e) = fbType (drop at s) ≡ fault (faultOf e)
-FbTypeReads s at (fb-type-step.Entry d m) = FbTypeIs s at d m
+abbrev pub fbTypeStep : FbTypeStep → Step FbTypeHead
+fbTypeStep (fb-type-step.Refused e) = stops (faultOf e)
+fbTypeStep (fb-type-step.Entry d m) = item (fbTypeHeadIn d) m
 
 -- Arrays
 
@@ -81,18 +79,17 @@ abbrev pub userFbStep : UserFbStep → Step UserFb
 userFbStep (user-fb-step.Refused e) = stops (faultOf e)
 userFbStep (user-fb-step.Entry u m) = item (userFbIn u) m
 
--- Tables with their counts in front
+-- Tables with their counts in front: the code reads all entries, and keeps where they stand, two bytes behind the place `at` of the count, and
+-- how many there are
 
-pub record TableIs {A : Type 0} (r : Reader (List A)) (s : List ℕ) (at : ℕ) (t : Table) (m : ℕ) : Type 0 where
-  pub within : m ≤ length s
-  pub entries : List A
-  pub reads : r (drop at s) ≡ got entries (drop m s)
-  pub place : t .at ≡ at + 2
-  pub count : t .count ≡ length entries
+abbrev pub tableAt : {A : Type 0} → ℕ → Reader (List A) → Reader Table
+tableAt at r = do
+  xs ← r
+  give (record { at = at + 2; count = length xs })
 
-abbrev pub TableReads : {A : Type 0} → Reader (List A) → List ℕ → ℕ → TableStep → Type 0
-TableReads r s at (table-step.Refused e) = r (drop at s) ≡ fault (faultOf e)
-TableReads r s at (table-step.Entries t m) = TableIs r s at t m
+abbrev pub tableStep : TableStep → Step Table
+tableStep (table-step.Refused e) = stops (faultOf e)
+tableStep (table-step.Entries t m) = item t m
 
 abbrev pub typeStartsFrom : TablesAnswer → Got Tables
 typeStartsFrom (tables-answer.Refused e) = refused (faultOf e)

@@ -8,7 +8,7 @@ ghost use Rattle.format.specs.Types.{field, fbType, isString, naturalStride, st
 ghost use Rattle.format.specs.Lookups.{byteSize};
 ghost use Rattle.base.specs.Small.{byteWidth};
 ghost use Rattle.base.specs.Section.{checkedFrom, wayFrom};
-ghost use Rattle.type_entries.specs.Answers.{fieldStep, FbTypeReads, arrayIn, strideChecked, sizeFrom, arrayStep, userFbStep, TableReads, typeStartsFrom};
+ghost use Rattle.type_entries.specs.Answers.{fieldStep, fbTypeHead, fbTypeStep, arrayIn, strideChecked, sizeFrom, arrayStep, userFbStep, tableAt, tableStep, typeStartsFrom};
 ghost use Rattle.type_entries.specs.Starts.{typeStartsIn};
 use base::char_width::CharWidth;
 use base::error::ContainerError;
@@ -234,7 +234,7 @@ fn skip_fields(s: &[u8], at: usize, n: usize) -> Walk
 
 // The FB type at the place `at`; its fields stand 4 bytes behind that.
 pub fn read_fb_type(s: &[u8], at: usize) -> FbTypeStep
-    ensures { λ r. ⌜ FbTypeReads (now (s .entry)) at r ⌝ }
+    ensures { λ r. ⌜ Reads fbTypeHead (now (s .entry)) at (fbTypeStep r) ⌝ }
 {
     if s.len() < at {
         return FbTypeStep::Refused(ContainerError::ShortInput);
@@ -348,7 +348,7 @@ pub fn read_user_fb(s: &[u8], at: usize) -> UserFbStep
 // The tables, each with its count at `at`.
 fn fb_type_table(s: &[u8], at: usize) -> TableStep
     requires { ⌜ at ≤ length (now s) ⌝ }
-    ensures { λ r. ⌜ TableReads (counted fbType) (now (s .entry)) at r ⌝ }
+    ensures { λ r. ⌜ Reads (tableAt at (counted fbType)) (now (s .entry)) at (tableStep r) ⌝ }
 {
     if s.len() - at < 2 {
         return TableStep::Refused(ContainerError::ShortInput);
@@ -363,7 +363,7 @@ fn fb_type_table(s: &[u8], at: usize) -> TableStep
 
 fn array_table(s: &[u8], at: usize) -> TableStep
     requires { ⌜ at ≤ length (now s) ⌝ }
-    ensures { λ r. ⌜ TableReads (counted array) (now (s .entry)) at r ⌝ }
+    ensures { λ r. ⌜ Reads (tableAt at (counted array)) (now (s .entry)) at (tableStep r) ⌝ }
 {
     if s.len() - at < 2 {
         return TableStep::Refused(ContainerError::ShortInput);
@@ -379,7 +379,7 @@ fn array_table(s: &[u8], at: usize) -> TableStep
 // No user FB is refused, so that they need no walk. Fewer than two bytes mean that there are none.
 fn user_fb_table(s: &[u8], at: usize) -> TableStep
     requires { ⌜ at ≤ length (now s) ⌝ }
-    ensures { λ r. ⌜ TableReads (countedOrNone userFb) (now (s .entry)) at r ⌝ }
+    ensures { λ r. ⌜ Reads (tableAt at (countedOrNone userFb)) (now (s .entry)) at (tableStep r) ⌝ }
 {
     let first = at + 2;
     if s.len() < first {

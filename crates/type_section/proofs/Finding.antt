@@ -1,38 +1,41 @@
 -- Lookups and steps in the section's bytes, by what the section's reader told.
-use mathlib.Core.Path.{_≡_, sym, ap, subst, _∙_}
+use mathlib.Core.Path.{_≡_, refl, sym, ap, subst, _∙_}
 use mathlib.Core.List.{List}
 use Prim.Native.Nat.{ℕ, _+_, _*_, _-_, _≤_, _<_}
 use native.Mathlib.Omega.{arith}
-use lib.ListN.{length, drop, length-drop}
+use lib.ListN.{length, take, drop, length-drop}
 use lib.Seq.{drop-drop}
 use Rattle.reading.specs.Fault.{Fault}
-use Rattle.reading.specs.Reader.{fault, got, Reader, many}
-use Rattle.reading.specs.Answer.{Got, refused, found, indexed}
-use Rattle.reading.specs.Places.{Step, stops, item, Reads, onTo, Goes, leftOf, Holds, ends, entry}
+use Rattle.reading.specs.Reader.{got, many}
+use Rattle.reading.specs.Answer.{Got, refused, found, _>>=_, itemOf, indexed}
+use Rattle.reading.specs.Places.{Step, stops, item, Reads, Way, stopsBy, onTo, Goes, leftOf, Holds, ends, entry}
 use Rattle.reading.specs.declared.Table.{Table}
-use Rattle.reading.proofs.Width.{Width, fixed-width}
-use Rattle.reading.proofs.Tables.{at-width, index-out, at-picked, at-reads, holds-walked, holds-width, holds-fits, holds-stops, holds-out}
+use Rattle.reading.proofs.Width.{fixed-width}
+use Rattle.reading.proofs.Parts.{same-place}
+use Rattle.reading.proofs.Passing.{goes-told, reads-told}
+use Rattle.reading.proofs.Made.{made-stops, made-gives}
+use Rattle.reading.proofs.Tables.{answerBy, many-take, at-width, index-out, at-picked, at-reads, holds-walked, holds-found, holds-fits, holds-stops, holds-out}
 use Rattle.format.specs.Faults.{noArray, noEntry}
-use Rattle.format.specs.Types.{Field, field, FbType, fbType, Array, array, UserFb, userFb}
+use Rattle.format.specs.Types.{Field, field, FbType, fbType, Array, array, UserFb, userFb, TypeTables, typeTables}
 use Rattle.format.specs.Record.{TypeCounts}
-use Rattle.base.proofs.FileLookups.{step-entry}
-use Rattle.type_entries.specs.Starts.{typeStartsIn}
+use Rattle.format.specs.Lookups.{FbTypeHead, fbTypeHeadOf, fbTypeOf, fieldOf}
+use Rattle.format.proofs.Answers.{same-found, steps, renamed, refused-then}
+use Rattle.base.proofs.FileLookups.{nextBy, step-stops, step-entry}
+use Rattle.type_entries.specs.Starts.{fbTypesSize, fieldsStart, typeStartsIn}
+use Rattle.type_entries.specs.Answers.{fbTypeHead}
 use Rattle.type_entries.specs.declared.Tables.{Tables}
 use Rattle.type_entries.proofs.Entries.{array-width, user-fb-fixed}
-use Rattle.type_entries.proofs.Sizes.{fields-left}
-use Rattle.type_entries.proofs.Standing.{readable}
-use Rattle.type_section.specs.Lookups.{fbTypeOfSection, arrayOfSection, userFbOfSection, fbTypeStep, withFields}
+use Rattle.type_entries.proofs.Sizes.{fields-left, fb-types-many, fb-type-at}
+use Rattle.type_entries.proofs.Standing.{standing, readable}
+use Rattle.type_section.specs.Lookups.{FbTypeEntry, fbTypeEntry, fbTypeOfSection, fieldOfSection, arrayOfSection, userFbOfSection, fbTypeStep, withFields}
 
--- The entry of an index, in a table of one width
+-- an FB type at a place, by its head
+abbrev pub headEntry : ℕ → FbTypeHead → FbTypeEntry
+headEntry at h = record { head = h; fields = record { at = at + 4; count = h .fieldCount } }
 
-abbrev pub answered : {A : Type 0} → Step A → Got A
-answered (stops f) = refused f
-answered (item a m) = found a
-
-pub entry-found : {A : Type 0} (r : Reader A) (s : List ℕ) (t : Table) (xs : List A) → Holds r s t xs → {w : ℕ} → Width w r → (k : ℕ) → k < t .count → (out : Fault) (x : Step A)
-    → Reads r s (t .at + w * k) x → answered x ≡ indexed out xs k
-entry-found r s t xs h hw k l out (stops f) g = absurd (at-reads r (holds-width r s t xs h hw k l) f g)
-entry-found r s t xs h hw k l out (item a m) g = sym (at-picked r (holds-width r s t xs h hw k l) a (drop m s) (g .1) out)
+abbrev pub placed : ℕ → Step FbTypeHead → Step FbTypeEntry
+placed at (stops f) = stops f
+placed at (item h m) = item (headEntry at h) m
 
 -- user FBs that are there stand in the section
 users-hold : (s : List ℕ) (t : Table) (us : List UserFb) (rest : List ℕ) (k : ℕ) → k < t .count → leftOf userFb s t ≡ got us rest → Holds userFb s t us
@@ -43,14 +46,10 @@ users-hold s t us rest k h e =
     record { within = omega (arith, w .takes (drop (8 * 0) x) (a .item) (a .behind) (a .reads) .1, length-drop (8 * 0) x, length-drop (t .at) s); rest = rest; reads = e }
 
 -- the fields of an FB type stand behind its head
-pub fields-hold : (s : List ℕ) (at n : ℕ) (b : FbType) (t : List ℕ) → fbType (drop at s) ≡ got b t → length (b .fields) ≡ n → Holds field s (record { at = at + 4; count = n }) (b .fields)
-fields-hold s at n b t e l =
+pub fields-hold : (s : List ℕ) (at : ℕ) (b : FbType) (t : List ℕ) → fbType (drop at s) ≡ got b t → Holds field s (fieldsStart at b) (b .fields)
+fields-hold s at b t e =
     let k = fields-left (drop at s) b t e in
-    record {
-      within = omega (arith, k .1, length-drop at s);
-      rest = t;
-      reads = subst (λ (m : ℕ). many m field (drop (at + 4) s) ≡ got (b .fields) t) l (ap (many (length (b .fields)) field) (sym (drop-drop 4 at s)) ∙ k .0);
-    }
+    record { within = omega (arith, k .1, length-drop at s); rest = t; reads = ap (many (length (b .fields)) field) (sym (drop-drop 4 at s)) ∙ k .0 }
 
 -- The section `s`, whose tables stand at `u`
 
@@ -61,52 +60,106 @@ module _ (s : List ℕ) (u : Tables) (e : found u ≡ typeStartsIn s) (i : ℕ) 
   pub array-out : u .arrays .count ≤ i → refused noArray ≡ arrayOfSection s i
   array-out l = let q = readable s u e in rw (q .is) (sym (holds-out array s (u .arrays) (q .all .arrays) (q .stand .arrays) i noArray l))
 
-  pub array-found : i < u .arrays .count → (x : Step Array) → Reads array s (u .arrays .at + 12 * i) x → answered x ≡ arrayOfSection s i
-  array-found l x g = let q = readable s u e in rw (q .is) (entry-found array s (u .arrays) (q .all .arrays) (q .stand .arrays) array-width i l noArray x g)
+  pub array-found : i < u .arrays .count → {v x : Step Array} → v ≡ x → Reads array s (u .arrays .at + 12 * i) v → answerBy x ≡ arrayOfSection s i
+  array-found l d g = let q = readable s u e in rw (q .is) (holds-found array s (u .arrays) (q .all .arrays) (q .stand .arrays) array-width i l noArray d g)
+
+  users : i < u .«user_fbs» .count → Holds userFb s (u .«user_fbs») (readable s u e .all .userFbs)
+  users l = let q = readable s u e in users-hold s (u .«user_fbs») (q .all .userFbs) (q .stand .rest) i l (q .stand .userFbs)
 
   pub user-fb-fits : i < u .«user_fbs» .count → u .«user_fbs» .at + 8 * i + 8 ≤ length s
-  user-fb-fits l =
-      let q = readable s u e in
-      let h = users-hold s (u .«user_fbs») (q .all .userFbs) (q .stand .rest) i l (q .stand .userFbs) in
-      holds-fits userFb s (u .«user_fbs») (q .all .userFbs) h (fixed-width user-fb-fixed) (omega arith) i l
+  user-fb-fits l = holds-fits userFb s (u .«user_fbs») (readable s u e .all .userFbs) (users l) (fixed-width user-fb-fixed) (omega arith) i l
 
   pub user-fb-out : u .«user_fbs» .count ≤ i → refused noEntry ≡ userFbOfSection s i
   user-fb-out l =
       let q = readable s u e in
       rw (q .is) (sym (index-out userFb i (u .«user_fbs» .count) (drop (u .«user_fbs» .at) s) (q .all .userFbs) (q .stand .rest) noEntry l (q .stand .userFbs)))
 
-  pub user-fb-found : i < u .«user_fbs» .count → (x : Step UserFb) → Reads userFb s (u .«user_fbs» .at + 8 * i) x → answered x ≡ userFbOfSection s i
-  user-fb-found l x g =
+  pub user-fb-found : i < u .«user_fbs» .count → {v x : Step UserFb} → v ≡ x → Reads userFb s (u .«user_fbs» .at + 8 * i) v → answerBy x ≡ userFbOfSection s i
+  user-fb-found l d g =
       let q = readable s u e in
-      let h = users-hold s (u .«user_fbs») (q .all .userFbs) (q .stand .rest) i l (q .stand .userFbs) in
-      rw (q .is) (entry-found userFb s (u .«user_fbs») (q .all .userFbs) h (fixed-width user-fb-fixed) i l noEntry x g)
+      rw (q .is) (holds-found userFb s (u .«user_fbs») (q .all .userFbs) (users l) (fixed-width user-fb-fixed) i l noEntry d g)
 
   -- FB types have no one width: the walk over those before it ends where the FB type stands
   pub fb-types-within : u .«fb_types» .at ≤ length s
   fb-types-within = readable s u e .stand .fbTypes .within
 
-  pub fb-type-out : u .«fb_types» .count ≤ i → fbTypeOfSection s i ≡ refused noEntry
-  fb-type-out l = let q = readable s u e in rw (q .is) (holds-out fbType s (u .«fb_types») (q .all .fbTypes) (q .stand .fbTypes) i noEntry l)
+  pub fb-type-out : u .«fb_types» .count ≤ i → refused noEntry ≡ fbTypeOfSection s i
+  fb-type-out l = let q = readable s u e in rw (q .is, holds-out fbType s (u .«fb_types») (q .all .fbTypes) (q .stand .fbTypes) i noEntry l)
 
-  pub fb-type-passed : i < u .«fb_types» .count → (f : Fault) → many i fbType (drop (u .«fb_types» .at) s) ≡ fault f → ⊥
-  fb-type-passed l f g = let q = readable s u e in holds-stops fbType s (u .«fb_types») (q .all .fbTypes) (q .stand .fbTypes) i f (omega arith) g
-
-  module _ (l : i < u .«fb_types» .count) (m : ℕ) (g : Goes (many i fbType) s (u .«fb_types» .at) (onTo m)) where
-    pub fb-type-reads : (f : Fault) → fbType (drop m s) ≡ fault f → ⊥
-    fb-type-reads f h = let q = readable s u e in at-reads fbType (holds-walked fbType s (u .«fb_types») (q .all .fbTypes) (q .stand .fbTypes) i m l g) f h
-
-    pub fb-type-found : (b : FbType) (t : List ℕ) → fbType (drop m s) ≡ got b t → fbTypeOfSection s i ≡ found b
-    fb-type-found b t h =
+  module _ (l : i < u .«fb_types» .count) where
+    pub fb-type-passed : (f : Fault) {v : Way} → v ≡ stopsBy f → Goes (many i fbType) s (u .«fb_types» .at) v → ⊥
+    fb-type-passed f d g =
         let q = readable s u e in
-        rw (q .is) (at-picked fbType (holds-walked fbType s (u .«fb_types») (q .all .fbTypes) (q .stand .fbTypes) i m l g) b t h noEntry)
+        holds-stops fbType s (u .«fb_types») (q .all .fbTypes) (q .stand .fbTypes) i f (omega arith) (goes-told (many i fbType) s (u .«fb_types» .at) d g)
 
--- an FB type with the table of its fields
-pub fb-type-step : (s : List ℕ) (t : Table) → (t .count ≡ 0 → ⊥) → (id n : ℕ) (fs : List Field) (m : ℕ) → length fs ≡ n → m ≤ length s
-    → fbType (drop (t .at) s) ≡ got (record { id = id; fields = fs }) (drop m s)
-    → entry (record { head = record { id = id; fieldCount = n }; fields = record { at = t .at + 4; count = n } }) (record { at = m; count = t .count - 1 }) ≡ fbTypeStep s t
-fb-type-step s t h id n fs m l w e =
-    ap (λ (k : ℕ). entry (record { head = record { id = id; fieldCount = k }; fields = record { at = t .at + 4; count = k } }) (record { at = m; count = t .count - 1 })) (sym l)
-    ∙ ap (withFields t) (step-entry fbType s t h w e)
+    module _ (m : ℕ) (g : Goes (many i fbType) s (u .«fb_types» .at) (onTo m)) where
+      fb-type-place : m ≡ 2 + fbTypesSize (take i (readable s u e .all .fbTypes))
+      fb-type-place =
+          let q = readable s u e in
+          let a : 2 ≡ u .«fb_types» .at = ap (λ (v : Tables). v .«fb_types» .at) (q .starts) in
+          let x = drop (u .«fb_types» .at) s in
+          let z = many-take fbType i (u .«fb_types» .count) x (drop m s) (q .all .fbTypes) (g .1 .0) (q .stand .fbTypes .rest) (omega arith) (q .stand .fbTypes .reads) (g .1 .1) in
+          let k = fb-types-many i .takes x (g .1 .0) (drop m s) (g .1 .1) in
+          let c = same-place s m (u .«fb_types» .at + fbTypesSize (g .1 .0)) (g .0) (omega (arith, k .1, length-drop (u .«fb_types» .at) s, fb-types-within)) (k .0 ∙ drop-drop (fbTypesSize (g .1 .0)) (u .«fb_types» .at) s) in
+          omega (arith, ap fbTypesSize z)
+
+      fb-type-is : (x : Step FbTypeHead) → Reads fbTypeHead s m x → answerBy (placed m x) ≡ fbTypeOfSection s i
+      fb-type-is (stops f) k =
+          let q = readable s u e in
+          absurd (at-reads fbType (holds-walked fbType s (u .«fb_types») (q .all .fbTypes) (q .stand .fbTypes) i m l g) f (made-stops fbTypeHeadOf (fbType (drop m s)) f k))
+      fb-type-is (item h n) k =
+          let q = readable s u e in
+          let b = made-gives fbTypeHeadOf (fbType (drop m s)) h (drop n s) (k .1) in
+          let p = at-picked fbType (holds-walked fbType s (u .«fb_types») (q .all .fbTypes) (q .stand .fbTypes) i m l g) (b .0) (drop n s) (b .1) noEntry in
+          rw (q .is, p) (ap (λ (y : FbTypeHead). found (headEntry m y)) (sym (b .2)) ∙ ap (λ (y : ℕ). found (fbTypeEntry y (b .0))) fb-type-place)
+
+    pub fb-type-found : (m : ℕ) {v : Way} → v ≡ onTo m → Goes (many i fbType) s (u .«fb_types» .at) v → {x y : Step FbTypeHead} → x ≡ y → Reads fbTypeHead s m x
+        → answerBy (placed m y) ≡ fbTypeOfSection s i
+    fb-type-found m d g {x} {y} c k = fb-type-is m (goes-told (many i fbType) s (u .«fb_types» .at) d g) y (reads-told fbTypeHead s m c k)
+
+-- What the FB type that is found tells
+
+-- its head
+pub head-found : (s : List ℕ) (i : ℕ) {v x : Got FbTypeEntry} → v ≡ x → v ≡ fbTypeOfSection s i → (x >>= λ b. found (b .head)) ≡ (itemOf (typeTables s) >>= fbTypeOf i)
+head-found s i e h = ap (λ (y : Got FbTypeEntry). y >>= λ b. found (b .head)) (sym e ∙ h) ∙ heads (itemOf (typeTables s))
+  where
+    heads : (y : Got TypeTables) → ((y >>= λ t. indexed noEntry (t .fbTypes) i >>= λ b. found (fbTypeEntry (2 + fbTypesSize (take i (t .fbTypes))) b)) >>= λ b. found (b .head)) ≡ (y >>= fbTypeOf i)
+    heads (refused f) = refl
+    heads (found t) = renamed (fbTypeEntry (2 + fbTypesSize (take i (t .fbTypes)))) (λ b. found (b .head)) (λ b. found (fbTypeHeadOf b)) (λ b. refl) (indexed noEntry (t .fbTypes) i)
+
+-- its fields
+pub record FieldsOf (s : List ℕ) (i : ℕ) (x : FbTypeEntry) : Type 0 where
+  pub fields : List Field
+  pub holds : Holds field s (x .fields) fields
+  pub is : (j : ℕ) → indexed noEntry fields j ≡ fieldOfSection s i j
+
+pub fields-of : (s : List ℕ) (i : ℕ) (x : FbTypeEntry) {v : Got FbTypeEntry} → v ≡ found x → v ≡ fbTypeOfSection s i → FieldsOf s i x
+fields-of s i x e h =
+    let k = steps (itemOf (typeTables s)) (sym h ∙ e) in
+    let bs = k .item .fbTypes in
+    let j = steps (indexed noEntry bs i) (k .second) in
+    let b = j .item in
+    let d = standing s (k .item) (k .first) .fbTypes in
+    let a = fb-type-at i (length bs) (drop 2 s) bs (d .rest) b noEntry (d .reads) (j .first) in
+    let f = fields-hold s (2 + fbTypesSize (take i bs)) b (a .0) (ap fbType (sym (drop-drop (fbTypesSize (take i bs)) 2 s)) ∙ a .1) in
+    record { fields = b .fields; holds = subst (λ (y : FbTypeEntry). Holds field s (y .fields) (b .fields)) (same-found (j .second)) f; is = λ n. sym (ap (λ (y : Got TypeTables). y >>= fieldOf i n) (k .first) ∙ ap (λ (y : Got FbType). y >>= λ d. indexed noEntry (d .fields) n) (j .first)) }
+
+pub fields-refused : (s : List ℕ) (i j : ℕ) (f : Fault) {v : Got FbTypeEntry} → v ≡ refused f → v ≡ fbTypeOfSection s i → refused f ≡ fieldOfSection s i j
+fields-refused s i j f e h = go (itemOf (typeTables s)) (sym e ∙ h)
+  where
+    go : (y : Got TypeTables) → refused f ≡ (y >>= λ t. indexed noEntry (t .fbTypes) i >>= λ b. found (fbTypeEntry (2 + fbTypesSize (take i (t .fbTypes))) b)) → refused f ≡ (y >>= fieldOf i j)
+    go (refused g) k = cc
+    go (found t) k = refused-then (indexed noEntry (t .fbTypes) i) (fbTypeEntry (2 + fbTypesSize (take i (t .fbTypes)))) (λ b. indexed noEntry (b .fields) j) f k
+
+-- a step over an FB type, by what was read there
+pub fb-type-step : (s : List ℕ) (t : Table) → (t .count ≡ 0 → ⊥) → {v x : Step FbTypeHead} → v ≡ x → Reads fbTypeHead s (t .at) v → nextBy t (placed (t .at) x) ≡ fbTypeStep s t
+fb-type-step s t h {v} {x} e g = go x (reads-told fbTypeHead s (t .at) e g)
+  where
+    go : (x : Step FbTypeHead) → Reads fbTypeHead s (t .at) x → nextBy t (placed (t .at) x) ≡ fbTypeStep s t
+    go (stops f) g = ap (withFields t) (step-stops fbType s t h (made-stops fbTypeHeadOf (fbType (drop (t .at) s)) f g))
+    go (item y m) g =
+        let b = made-gives fbTypeHeadOf (fbType (drop (t .at) s)) y (drop m s) (g .1) in
+        ap (λ (z : FbTypeHead). entry (headEntry (t .at) z) (record { at = m; count = t .count - 1 })) (sym (b .2)) ∙ ap (withFields t) (step-entry fbType s t h (g .0) (b .1))
 
 -- the counts of the tables
 abbrev pub countsIn : Tables → TypeCounts

@@ -1,5 +1,5 @@
 -- The claims: a walk over a table, step by step, gives the table.
-use mathlib.Core.Path.{_≡_, refl, ap, _∙_}
+use mathlib.Core.Path.{_≡_, refl, sym, ap, _∙_}
 use mathlib.Core.List.{List, [], _∷_}
 use Prim.Native.Nat.{ℕ, zero, suc, _-_}
 use native.Mathlib.Omega.{arith}
@@ -10,7 +10,7 @@ use Rattle.reading.specs.Reader.{got, many}
 use Rattle.reading.specs.Answer.{found}
 use Rattle.reading.specs.Places.{stepOf}
 use Rattle.reading.specs.declared.Table.{Table}
-use Rattle.reading.proofs.Reading.{both}
+use Rattle.reading.proofs.Tables.{cons}
 use Rattle.reading.proofs.Local.{Local, local-give, local-check, local-bind, local-number, local-many}
 use Rattle.reading.proofs.Left.{left-at, left-again, stays-local, walk-gives}
 use Rattle.format.specs.Faults.{invalidFieldType, invalidArrayStride}
@@ -60,18 +60,16 @@ fb-type-walk : (n : ℕ) (s : List ℕ) (t : Table) (b : FbType) (x : List ℕ) 
     → fbTypesWalked n s (record { at = length s - length x; count = t .count - 1 }) ≡ found bs → fbTypesWalked (suc n) s t ≡ found (b ∷ bs)
 unfolding stepOf
 fb-type-walk n s t b x bs c e g =
-    let f = walk-gives s field (stays-local s local-field) (fieldsStart (t .at) b) (b .fields) _ (fields-hold s (t .at) (length (b .fields)) b x e refl .reads) in
+    let f = walk-gives s field (stays-local s local-field) (fieldsStart (t .at) b) (b .fields) _ (fields-hold s (t .at) b x e .reads) in
     rw (ne-eqb (t .count) 0 (λ z. omega arith), e, f, g)
 
 fb-types-walk : (n : ℕ) (s : List ℕ) (t : Table) (bs : List FbType) (rest : List ℕ) → t .count ≡ n → many n fbType (drop (t .at) s) ≡ got bs rest → fbTypesWalked n s t ≡ found bs
 fb-types-walk zero s t bs rest c e = let z : [] ≡ bs = cc in ap found z
 fb-types-walk (suc n) s t bs rest c e =
-    let p = both (fbType (drop (t .at) s)) e in
-    let q = both (many n fbType (p .middle)) (p .second) in
-    let w = left-again s (p .middle) (stays-local s local-fb-type .leaves (drop (t .at) s) (p .item) (p .middle) (left-at s (t .at)) (p .first)) in
-    let g = fb-types-walk n s (record { at = length s - length (p .middle); count = t .count - 1 }) (q .item) (q .middle) (omega arith) (ap (many n fbType) w ∙ q .first) in
-    let z : p .item ∷ q .item ≡ bs = cc in
-    fb-type-walk n s t (p .item) (p .middle) (q .item) c (p .first) g ∙ ap found z
+    let p = cons fbType n (drop (t .at) s) bs rest e in
+    let w = left-again s (p .middle) (stays-local s local-fb-type .leaves (drop (t .at) s) (p .first) (p .middle) (left-at s (t .at)) (p .reads)) in
+    let g = fb-types-walk n s (record { at = length s - length (p .middle); count = t .count - 1 }) (p .others) rest (omega arith) (ap (many n fbType) w ∙ p .reads-others) in
+    fb-type-walk n s t (p .first) (p .middle) (p .others) c (p .reads) g ∙ ap found (sym (p .all))
 
 pub laws : Laws
 laws =

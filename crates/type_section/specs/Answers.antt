@@ -1,17 +1,12 @@
 -- What the code's answers mean.
-use Prim.Native.Nat.{ℕ}
-use mathlib.Core.List.{List}
-use mathlib.Core.Path.{_≡_}
-use lib.ListN.{length}
 use Rattle.reading.specs.Answer.{Got, refused, found}
-use Rattle.reading.specs.Places.{Holds, Next, ends, faulty, entry}
-use Rattle.format.specs.Types.{Field, field, Array, UserFb}
+use Rattle.reading.specs.Places.{Next, ends, faulty, entry}
+use Rattle.format.specs.Types.{Field, Array, UserFb}
 use Rattle.format.specs.Record as record-of
 use Rattle.format.specs.Lookups.{FbTypeHead}
 use Rattle.base.specs.Error.{faultOf}
 use Rattle.type_entries.specs.Answers.{fbTypeHeadIn, fieldIn, arrayIn, userFbIn}
-use Rattle.type_entries.specs.declared.FbTypeDescriptor.{FbTypeDescriptor}
-use Rattle.type_section.specs.Lookups.{fbTypeOfSection, FbTypeEntry}
+use Rattle.type_section.specs.Lookups.{FbTypeEntry}
 use Rattle.type_section.specs.declared.TypeCounts.{TypeCounts}
 use Rattle.type_section.specs.declared.TypesAnswer.{TypesAnswer}
 use Rattle.type_section.specs.declared.TypesAnswer.the-variants as types-answer
@@ -47,16 +42,9 @@ abbrev pub fbTypeFrom : FbTypeAnswer → Got FbTypeHead
 fbTypeFrom (fb-type-answer.Refused e) = refused (faultOf e)
 fbTypeFrom (fb-type-answer.Entry d) = found (fbTypeHeadIn d)
 
--- the code has an FB type's head and the place of its fields
-pub record FbTypePlacedIs (s : List ℕ) (index : ℕ) (d : FbTypeDescriptor) (at : ℕ) : Type 0 where
-  pub fields : List Field
-  pub count : length fields ≡ d .«num_fields»
-  pub is : fbTypeOfSection s index ≡ found (record { id = d .«type_id» .0; fields = fields })
-  pub holds : Holds field s (record { at = at; count = d .«num_fields» }) fields
-
-abbrev pub FbTypeFound : List ℕ → ℕ → FbTypePlaced → Type 0
-FbTypeFound s index (fb-type-placed.Refused e) = fbTypeOfSection s index ≡ refused (faultOf e)
-FbTypeFound s index (fb-type-placed.Entry d at) = FbTypePlacedIs s index d at
+abbrev pub fbTypePlacedFrom : FbTypePlaced → Got FbTypeEntry
+fbTypePlacedFrom (fb-type-placed.Refused e) = refused (faultOf e)
+fbTypePlacedFrom (fb-type-placed.Entry d at) = found (record { head = fbTypeHeadIn d; fields = record { at = at; count = d .«num_fields» } })
 
 abbrev pub fbTypeNextFrom : FbTypeNext → Next FbTypeEntry
 fbTypeNextFrom fb-type-next.End = ends

@@ -1,7 +1,7 @@
 -- What the section's reader, its lookups and its walks answer: over the section's bytes `s`, and over a file and the section's place `p` in it.
-use Prim.Native.Nat.{ℕ}
+use Prim.Native.Nat.{ℕ, _+_}
 use mathlib.Core.List.{List}
-use lib.ListN.{length}
+use lib.ListN.{length, take}
 use Rattle.reading.specs.Answer.{Got, found, _>>=_, itemOf, indexed}
 use Rattle.reading.specs.Places.{Next, ends, faulty, entry, stepOf}
 use Rattle.reading.specs.declared.Table.{Table}
@@ -9,9 +9,9 @@ use Rattle.format.specs.Faults.{noEntry}
 use Rattle.format.specs.Parts.{Place}
 use Rattle.format.specs.Types.{Field, field, FbType, fbType, Array, array, UserFb, userFb, typeTables}
 use Rattle.format.specs.Record.{TypeCounts}
-use Rattle.format.specs.Lookups.{readAt, FbTypeHead, fbTypeOf, fieldOf, arrayOf, arraySizeOf, userFbOf}
+use Rattle.format.specs.Lookups.{readAt, FbTypeHead, fbTypeHeadOf, fbTypeOf, fieldOf, arrayOf, arraySizeOf, userFbOf}
 use Rattle.base.specs.Section.{stepIn}
-use Rattle.type_entries.specs.Starts.{fbTypesStart, arraysStart, userFbsStart, fieldsStart, typeStartsOf}
+use Rattle.type_entries.specs.Starts.{fbTypesSize, fbTypesStart, arraysStart, userFbsStart, fieldsStart, typeStartsOf}
 use Rattle.type_entries.specs.declared.Tables.{Tables}
 
 -- the section's reader: the record's counts
@@ -20,9 +20,17 @@ typeCountsOfSection s = itemOf (typeTables s) >>= λ t. found (record { fbTypes 
 
 -- Lookups in the section's bytes
 
--- an FB type with its fields
-abbrev pub fbTypeOfSection : List ℕ → ℕ → Got FbType
-fbTypeOfSection s i = itemOf (typeTables s) >>= λ t. indexed noEntry (t .fbTypes) i
+-- an FB type is answered by its head and the table of its fields, which stands behind the head
+pub record FbTypeEntry : Type 0 where
+  pub head : FbTypeHead
+  pub fields : Table
+
+abbrev pub fbTypeEntry : ℕ → FbType → FbTypeEntry
+fbTypeEntry at b = record { head = fbTypeHeadOf b; fields = fieldsStart at b }
+
+-- the FB type of an index stands behind the count of FB types and those before it
+abbrev pub fbTypeOfSection : List ℕ → ℕ → Got FbTypeEntry
+fbTypeOfSection s i = itemOf (typeTables s) >>= λ t. indexed noEntry (t .fbTypes) i >>= λ b. found (fbTypeEntry (2 + fbTypesSize (take i (t .fbTypes))) b)
 
 abbrev pub fieldOfSection : List ℕ → ℕ → ℕ → Got Field
 fieldOfSection s i j = itemOf (typeTables s) >>= fieldOf i j
@@ -64,19 +72,13 @@ arraysAt f p = readAt f p typeTables >>= λ t. found (arraysStart t)
 abbrev pub userFbsAt : List ℕ → Place → Got Table
 userFbsAt f p = readAt f p typeTables >>= λ t. found (userFbsStart t)
 
--- Steps. An FB type is answered by its head and the table of its fields, which stands behind the head
+-- Steps
 
-pub record FbTypeEntry : Type 0 where
-  pub head : FbTypeHead
-  pub fields : Table
-
-abbrev pub fbTypeHeadOf : FbType → FbTypeHead
-fbTypeHeadOf b = record { id = b .id; fieldCount = length (b .fields) }
-
+-- an FB type, with the table of its fields
 abbrev pub withFields : Table → Next FbType → Next FbTypeEntry
 withFields t ends = ends
 withFields t (faulty f) = faulty f
-withFields t (entry b u) = entry (record { head = fbTypeHeadOf b; fields = fieldsStart (t .at) b }) u
+withFields t (entry b u) = entry (fbTypeEntry (t .at) b) u
 
 abbrev pub fbTypeStep : List ℕ → Table → Next FbTypeEntry
 fbTypeStep s t = withFields t (stepOf fbType s t)

@@ -4,8 +4,8 @@ ghost use Rattle.reading.specs.Places.{stepOf};
 ghost use Rattle.format.specs.Types.{field, array, userFb};
 ghost use Rattle.base.specs.Section.{placeIn, startFrom};
 ghost use Rattle.type_entries.specs.Answers.{sizeFrom, typeStartsFrom};
-ghost use Rattle.type_section.specs.Answers.{typeCountsFrom, fbTypeFrom, FbTypeFound, fieldFrom, arrayFrom, userFbFrom, fbTypeNextFrom, fieldNextFrom, arrayNextFrom, userFbNextFrom};
-ghost use Rattle.type_section.specs.Lookups.{typeCountsOfSection, fieldOfSection, arrayOfSection, userFbOfSection, tablesAt, fbTypeAt, fieldAt, arrayAt, arraySizeAt, userFbAt, fbTypesAt, arraysAt, userFbsAt, fbTypeStep, nextFbTypeAt, nextFieldAt, nextArrayAt, nextUserFbAt};
+ghost use Rattle.type_section.specs.Answers.{typeCountsFrom, fbTypeFrom, fbTypePlacedFrom, fieldFrom, arrayFrom, userFbFrom, fbTypeNextFrom, fieldNextFrom, arrayNextFrom, userFbNextFrom};
+ghost use Rattle.type_section.specs.Lookups.{typeCountsOfSection, fbTypeOfSection, fieldOfSection, arrayOfSection, userFbOfSection, tablesAt, fbTypeAt, fieldAt, arrayAt, arraySizeAt, userFbAt, fbTypesAt, arraysAt, userFbsAt, fbTypeStep, nextFbTypeAt, nextFieldAt, nextArrayAt, nextUserFbAt};
 ghost use Rattle.type_section.specs.Laws.{Laws};
 use base::error::ContainerError;
 use base::section::PartAnswer;
@@ -115,7 +115,7 @@ pub fn read_from(s: &[u8]) -> TypesAnswer
 
 // The lookups in the section `s`.
 fn find_fb_type(s: &[u8], index: usize) -> FbTypePlaced
-    ensures { λ r. ⌜ FbTypeFound (now (s .entry)) index r ⌝ }
+    ensures { λ r. ⌜ fbTypePlacedFrom r ≡ fbTypeOfSection (now (s .entry)) index ⌝ }
 {
     match tables_of(s) {
         TablesAnswer::Refused(e) => FbTypePlaced::Refused(e),

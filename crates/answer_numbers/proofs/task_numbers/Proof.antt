@@ -1,6 +1,6 @@
 -- `answer_numbers::task_numbers` meets its contract.
 use native.Mathlib.Omega.{arith}
-use Rattle.answer_numbers.proofs.Words.{le-all}
+use Rattle.reading.proofs.Le.{le-all}
 use borrow.Author.Needs.{needs}
 use Rattle.answer_numbers.proofs.task_numbers.Statement.{statement}
 use Rattle.answer_numbers.proofs.task_numbers.Tie as tie

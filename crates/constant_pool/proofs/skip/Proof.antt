@@ -2,9 +2,7 @@
 use mathlib.Core.Path.{ap}
 use Prim.Native.Nat.{_-_}
 use native.Mathlib.Omega.{arith}
-use denote.Ref.{now}
-use Rattle.reading.proofs.Passing.{Passed, passed-none, passed-all, passed-stop, passed-more, reads-told}
-use Rattle.base.specs.Error.{faultOf}
+use Rattle.reading.proofs.Passing.{Passed, passed-none, passed-all, walk-stop, walk-more}
 use Rattle.constant_pool.specs.Lookups.{constantOver}
 use Rattle.constant_pool.specs.Answers.{stepFrom}
 use borrow.Author.Needs.{needs}
@@ -18,32 +16,16 @@ abbrev μ-loop : tie.MeasureT-loop
 μ-loop s base at n p₀ i₀ p i = n - i
 
 loop-holds : tie.Need-loop-holds Inv-loop μ-loop
-loop-holds c = let a = c .before .args in passed-none (constantOver (a .base) (now (a .s))) (now (a .s)) (a .n) (a .at) (omega arith)
+loop-holds c = passed-none _ _ _ _ (omega arith)
 
 returns : tie.Need-returns Inv-loop μ-loop
-returns c =
-    let a = c .before .before .before .before .before .before .before .args in
-    let s = now (a .s) in
-    let r = constantOver (a .base) s in
-    let l = c .before .before .before .before .before .loop in
-    let v = c .before .e .given in
-    passed-stop r s (a .n) (a .at) (l .i) (l .p) (faultOf (v .0 .0)) (c .before .before .before .before .loop-test .taken) (l .inv) (reads-told r s (l .p) (ap stepFrom (v .1)) (c .before .before .before .read-entry .ensures .0))
+returns c = walk-stop _ _ _ _ _ _ _ (c .before .before .before .before .loop-test .taken) (c .before .before .before .before .before .loop .inv) (ap stepFrom (c .before .e .given .1)) (c .before .before .before .read-entry .ensures .0)
 
 loop-again : tie.Need-loop-again Inv-loop μ-loop
-loop-again c =
-    let a = c .before .before .before .before .before .before .before .args in
-    let s = now (a .s) in
-    let r = constantOver (a .base) s in
-    let l = c .before .before .before .before .before .loop in
-    let v = c .before .m .given in
-    let g = reads-told r s (l .p) (ap stepFrom (v .1)) (c .before .before .before .read-entry .ensures .0) in
-    passed-more r s (a .n) (a .at) (l .i) (l .p) _ (v .0 .1 .0) (c .before .before .before .before .loop-test .taken) (l .inv) (g .0) (g .1)
+loop-again c = walk-more _ _ _ _ _ _ _ _ (c .before .before .before .before .loop-test .taken) (c .before .before .before .before .before .loop .inv) (ap stepFrom (c .before .m .given .1)) (c .before .before .before .read-entry .ensures .0)
 
 returns-2 : tie.Need-returns-2 Inv-loop μ-loop
-returns-2 c =
-    let a = c .before .before .before .args in
-    let l = c .before .loop in
-    passed-all (constantOver (a .base) (now (a .s))) (now (a .s)) (a .n) (a .at) (l .i) (l .p) (c .loop-test .left) (l .inv)
+returns-2 c = passed-all _ _ _ _ _ _ (c .loop-test .left) (c .before .loop .inv)
 
 pub skip-spec : {M : Type 1} → statement M
 skip-spec =

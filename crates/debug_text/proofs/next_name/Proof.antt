@@ -2,8 +2,7 @@
 use mathlib.Core.Path.{ap}
 use native.Mathlib.Omega.{arith}
 use Rattle.debug_text.specs.Answers.{textStep}
-use Rattle.base.proofs.FileLookups.{step-ends}
-use Rattle.debug_text.proofs.Walks.{step-past, step-read}
+use Rattle.base.proofs.FileLookups.{step-ends, step-past, step-read}
 use Rattle.debug_text.proofs.Texts.{name-needs}
 use borrow.Author.Needs.{needs}
 use Rattle.debug_text.proofs.next_name.Statement.{statement}

@@ -2,10 +2,9 @@
 use mathlib.Core.Path.{ap}
 use Prim.Native.Nat.{_-_}
 use native.Mathlib.Omega.{arith}
-use Rattle.reading.proofs.Passing.{Passed, passed-none, passed-all}
+use Rattle.reading.proofs.Passing.{Passed, passed-none, passed-all, walk-stop, walk-more}
 use Rattle.format.specs.Debug.{name}
 use Rattle.debug_text.specs.Answers.{keepIn, textStep}
-use Rattle.debug_text.proofs.Walks.{walk-stop, walk-more}
 use borrow.Author.Needs.{needs}
 use Rattle.debug_text.proofs.skip_names.Statement.{statement}
 use Rattle.debug_text.proofs.skip_names.Tie as tie

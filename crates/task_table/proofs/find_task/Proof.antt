@@ -1,14 +1,12 @@
 -- `task_table::find_task` meets its contract: the task at an index stands behind the header and the tasks before it.
 use mathlib.Core.Path.{ap}
-use Prim.Native.Nat.{_+_, _*_}
 use native.Mathlib.Omega.{arith}
 use denote.Ref.{now}
-use Rattle.reading.proofs.Passing.{reads-told}
 use Rattle.format.specs.Tasks.{task}
 use Rattle.format.specs.Lookups.{taskOf}
 use Rattle.base.specs.Error.{faultOf}
 use Rattle.task_table.specs.Answers.{taskStep, taskCountsIn}
-use Rattle.task_table.proofs.Tables.{counts-refused, task-out, task-fits, task-found, task-never}
+use Rattle.task_table.proofs.Tables.{counts-refused, task-out, task-fits, task-found}
 use borrow.Author.Needs.{needs}
 use Rattle.task_table.proofs.find_task.Statement.{statement}
 use Rattle.task_table.proofs.find_task.Tie as tie
@@ -34,18 +32,14 @@ returns-2 c =
 returns-3 : tie.Need-returns-3
 returns-3 c =
     let a = c .before .before .before .before .before .before .before .before .before .before .before .args in
-    let s = now (a .s) in
     let v = c .before .before .before .before .before .before .before .counts .given in
-    let g = reads-told task s (6 + 32 * a .index) (ap taskStep (c .before .e2 .given .1)) (c .before .before .before .read-task .ensures) in
-    absurd (task-never s (taskCountsIn (v .0 .0)) (rw (v .1) at (c .before .before .before .before .before .before .before .before .before .read-from .ensures)) (a .index) (c .before .before .before .before .if1 .left) _ g)
+    task-found (now (a .s)) (taskCountsIn (v .0 .0)) (rw (v .1) at (c .before .before .before .before .before .before .before .before .before .read-from .ensures)) (a .index) (c .before .before .before .before .if1 .left) (ap taskStep (c .before .e2 .given .1)) (c .before .before .before .read-task .ensures)
 
 returns-4 : tie.Need-returns-4
 returns-4 c =
     let a = c .before .before .before .before .before .before .before .before .before .before .before .args in
-    let s = now (a .s) in
     let v = c .before .before .before .before .before .before .before .counts .given in
-    let g = reads-told task s (6 + 32 * a .index) (ap taskStep (c .before .t .given .1)) (c .before .before .before .read-task .ensures) in
-    task-found s (taskCountsIn (v .0 .0)) (rw (v .1) at (c .before .before .before .before .before .before .before .before .before .read-from .ensures)) (a .index) (c .before .before .before .before .if1 .left) _ _ (g .1)
+    task-found (now (a .s)) (taskCountsIn (v .0 .0)) (rw (v .1) at (c .before .before .before .before .before .before .before .before .before .read-from .ensures)) (a .index) (c .before .before .before .before .if1 .left) (ap taskStep (c .before .t .given .1)) (c .before .before .before .read-task .ensures)
 
 pub find-task-spec : {M : Type 1} → statement M
 find-task-spec =

@@ -1,34 +1,22 @@
 -- `type_entries::fb_type_table` meets its contract: the count, and the walk behind it.
-use mathlib.Core.Path.{ap, _∙_}
-use Prim.Native.Nat.{_+_}
+use mathlib.Core.Path.{ap}
 use native.Mathlib.Omega.{arith}
 use denote.Ref.{now}
-use Rattle.reading.specs.Reader.{many}
-use Rattle.reading.proofs.Passing.{goes-told, counted-short, counted-as}
 use Rattle.format.specs.Types.{fbType}
-use Rattle.type_entries.proofs.Sizes.{table-is}
 use Rattle.base.specs.Section.{wayFrom}
+use Rattle.type_entries.proofs.Entries.{table-by-walk, table-short}
 use borrow.Author.Needs.{needs}
 use Rattle.type_entries.proofs.fb_type_table.Statement.{statement}
 use Rattle.type_entries.proofs.fb_type_table.Tie as tie
 
 returns : tie.Need-returns
-returns c = let a = c .before .before .args in counted-short fbType (now (a .s)) (a .at) (c .if1 .taken)
+returns c = let a = c .before .before .args in table-short fbType (now (a .s)) (a .at) (c .if1 .taken)
 
 returns-2 : tie.Need-returns-2
-returns-2 c =
-    let a = c .before .before .before .before .before .before .before .args in
-    let n = c .before .before .before .before .u16-at in
-    let g = goes-told (many (n .result) fbType) (now (a .s)) (a .at + 2) (ap wayFrom (c .before .e .given .1)) (c .before .before .before .skip-fb-types .ensures) in
-    counted-as fbType (now (a .s)) (a .at) (n .result) (omega arith) (n .ensures) ∙ g
+returns-2 c = table-by-walk _ _ _ _ (omega arith) (c .before .before .before .before .u16-at .ensures) (ap wayFrom (c .before .e .given .1)) (c .before .before .before .skip-fb-types .ensures)
 
 returns-3 : tie.Need-returns-3
-returns-3 c =
-    let a = c .before .before .before .before .before .before .before .args in
-    let n = c .before .before .before .before .u16-at in
-    let v = c .before .m .given in
-    let g = goes-told (many (n .result) fbType) (now (a .s)) (a .at + 2) (ap wayFrom (v .1)) (c .before .before .before .skip-fb-types .ensures) in
-    table-is fbType (now (a .s)) (a .at) (n .result) (v .0 .0) (omega arith) (n .ensures) g
+returns-3 c = table-by-walk _ _ _ _ (omega arith) (c .before .before .before .before .u16-at .ensures) (ap wayFrom (c .before .m .given .1)) (c .before .before .before .skip-fb-types .ensures)
 
 pub fb-type-table-spec : {M : Type 1} → statement M
 fb-type-table-spec =

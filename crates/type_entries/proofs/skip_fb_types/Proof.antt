@@ -1,10 +1,12 @@
 -- `type_entries::skip_fb_types` meets its contract: the loop keeps `Passed`, and each need is one of its laws.
+use mathlib.Core.Path.{ap}
 use Prim.Native.Nat.{_-_}
 use native.Mathlib.Omega.{arith}
-use denote.Ref.{now}
-use Rattle.base.specs.Error.{faultOf}
-use Rattle.reading.proofs.Passing.{Passed, passed-none, passed-all, passed-stop, passed-more}
+use Rattle.reading.proofs.Passing.{Passed, passed-none, passed-all}
+use Rattle.reading.proofs.Made.{made-stop, made-more}
 use Rattle.format.specs.Types.{fbType}
+use Rattle.format.specs.Lookups.{fbTypeHeadOf}
+use Rattle.type_entries.specs.Answers.{fbTypeStep}
 use borrow.Author.Needs.{needs}
 use Rattle.type_entries.proofs.skip_fb_types.Statement.{statement}
 use Rattle.type_entries.proofs.skip_fb_types.Tie as tie
@@ -16,29 +18,16 @@ abbrev μ-loop : tie.MeasureT-loop
 μ-loop s at n p₀ i₀ p i = n - i
 
 loop-holds : tie.Need-loop-holds Inv-loop μ-loop
-loop-holds c = let a = c .before .args in passed-none fbType (now (a .s)) (a .n) (a .at) (omega arith)
+loop-holds c = passed-none _ _ _ _ (omega arith)
 
 returns : tie.Need-returns Inv-loop μ-loop
-returns c =
-    let a = c .before .before .before .before .before .before .before .args in
-    let l = c .before .before .before .before .before .loop in
-    let v = c .before .e .given in
-    let g = rw (v .1) at (c .before .before .before .read-fb-type .ensures) in
-    passed-stop fbType (now (a .s)) (a .n) (a .at) (l .i) (l .p) (faultOf (v .0 .0)) (c .before .before .before .before .loop-test .taken) (l .inv) g
+returns c = made-stop fbTypeHeadOf fbType _ _ _ _ _ _ (c .before .before .before .before .loop-test .taken) (c .before .before .before .before .before .loop .inv) (ap fbTypeStep (c .before .e .given .1)) (c .before .before .before .read-fb-type .ensures)
 
 loop-again : tie.Need-loop-again Inv-loop μ-loop
-loop-again c =
-    let a = c .before .before .before .before .before .before .before .args in
-    let l = c .before .before .before .before .before .loop in
-    let v = c .before .m .given in
-    let g = rw (v .1) at (c .before .before .before .read-fb-type .ensures) in
-    passed-more fbType (now (a .s)) (a .n) (a .at) (l .i) (l .p) _ (v .0 .1 .0) (c .before .before .before .before .loop-test .taken) (l .inv) (g .within) (g .reads)
+loop-again c = made-more fbTypeHeadOf fbType _ _ _ _ _ _ _ (c .before .before .before .before .loop-test .taken) (c .before .before .before .before .before .loop .inv) (ap fbTypeStep (c .before .m .given .1)) (c .before .before .before .read-fb-type .ensures)
 
 returns-2 : tie.Need-returns-2 Inv-loop μ-loop
-returns-2 c =
-    let a = c .before .before .before .args in
-    let l = c .before .loop in
-    passed-all fbType (now (a .s)) (a .n) (a .at) (l .i) (l .p) (c .loop-test .left) (l .inv)
+returns-2 c = passed-all _ _ _ _ _ _ (c .loop-test .left) (c .before .loop .inv)
 
 pub skip-fb-types-spec : {M : Type 1} → statement M
 skip-fb-types-spec =

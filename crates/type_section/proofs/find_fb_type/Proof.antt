@@ -1,19 +1,15 @@
 -- `type_section::find_fb_type` meets its contract: the FB type of an index stands where the walk over those before it ends.
-use mathlib.Core.Path.{sym, ap}
+use mathlib.Core.Path.{ap}
 use native.Mathlib.Omega.{arith}
 use denote.Ref.{now}
-use lib.ListN.{drop, length-drop}
-use Rattle.reading.specs.Reader.{many}
-use Rattle.reading.specs.Answer.{itemOf, indexed}
-use Rattle.reading.proofs.Passing.{goes-told}
-use Rattle.format.specs.Faults.{noEntry}
-use Rattle.format.specs.Types.{fbType, typeTables}
-use Rattle.base.specs.Error.{faultOf}
-use Rattle.type_entries.specs.Starts.{typeStartsOf}
-use Rattle.type_entries.proofs.Sizes.{fields-left}
+use Rattle.reading.specs.Answer.{itemOf}
+use Rattle.format.specs.Types.{typeTables}
 use Rattle.format.proofs.Answers.{refused-then}
-use Rattle.type_section.proofs.Finding.{fields-hold, fb-types-within, fb-type-out, fb-type-passed, fb-type-reads, fb-type-found}
 use Rattle.base.specs.Section.{wayFrom}
+use Rattle.type_entries.specs.Starts.{typeStartsOf}
+use Rattle.type_entries.specs.Answers.{fbTypeStep}
+use Rattle.type_entries.proofs.Sizes.{head-room}
+use Rattle.type_section.proofs.Finding.{fb-types-within, fb-type-out, fb-type-passed, fb-type-found}
 use borrow.Author.Needs.{needs}
 use Rattle.type_section.proofs.find_fb_type.Statement.{statement}
 use Rattle.type_section.proofs.find_fb_type.Tie as tie
@@ -31,46 +27,30 @@ skip-fb-types-requires c κs =
     fb-types-within (now (a .s)) (v .0 .0) (rw (v .1) at (c .before .before .before .before .tables-of .ensures)) (a .index)
 
 add-t19 : tie.Need-add-t19
-add-t19 c =
-    let s = now (c .before .before .before .before .before .before .before .before .before .before .before .before .before .before .args .s) in
-    let m = c .before .before .before .before .before .p .given .0 .0 in
-    let x = rw (c .before .d .given .1) at (c .before .before .before .read-fb-type .ensures) in
-    omega (arith, fields-left (drop m s) _ _ (x .reads) .1, length-drop m s)
+add-t19 c = omega (arith, head-room _ _ (ap fbTypeStep (c .before .d .given .1)) (c .before .before .before .read-fb-type .ensures))
 
 returns-2 : tie.Need-returns-2
 returns-2 c =
     let a = c .before .before .before .before .before .args in
-    let v = c .before .e .given in
-    sym (refused-then (itemOf (typeTables (now (a .s)))) typeStartsOf (λ t. indexed noEntry (t .fbTypes) (a .index)) (faultOf (v .0 .0)) (rw (v .1) at (c .before .before .before .tables-of .ensures)))
+    refused-then (itemOf (typeTables (now (a .s)))) typeStartsOf _ _ (rw (c .before .e .given .1) at (c .before .before .before .tables-of .ensures))
 
 returns-3 : tie.Need-returns-3
 returns-3 c =
     let a = c .before .before .before .before .before .before .before .before .before .before .args in
     let v = c .before .before .before .before .before .before .t .given in
-    let g = goes-told (many (a .index) fbType) (now (a .s)) (v .0 .0 .«fb_types» .at) (ap wayFrom (c .before .e2 .given .1)) (c .before .before .before .skip-fb-types .ensures) in
-    absurd (fb-type-passed (now (a .s)) (v .0 .0) (rw (v .1) at (c .before .before .before .before .before .before .before .before .tables-of .ensures)) (a .index) (c .before .before .before .before .if1 .left) _ g)
+    absurd (fb-type-passed (now (a .s)) (v .0 .0) (rw (v .1) at (c .before .before .before .before .before .before .before .before .tables-of .ensures)) (a .index) (c .before .before .before .before .if1 .left) _ (ap wayFrom (c .before .e2 .given .1)) (c .before .before .before .skip-fb-types .ensures))
 
 returns-4 : tie.Need-returns-4
 returns-4 c =
     let a = c .before .before .before .before .before .before .before .before .before .before .before .before .before .before .args in
     let v = c .before .before .before .before .before .before .before .before .before .before .t .given in
-    let w = c .before .before .before .before .before .p .given in
-    let g = goes-told (many (a .index) fbType) (now (a .s)) (v .0 .0 .«fb_types» .at) (ap wayFrom (w .1)) (c .before .before .before .before .before .before .before .skip-fb-types .ensures) in
-    absurd (fb-type-reads (now (a .s)) (v .0 .0) (rw (v .1) at (c .before .before .before .before .before .before .before .before .before .before .before .before .tables-of .ensures)) (a .index) (c .before .before .before .before .before .before .before .before .if1 .left) (w .0 .0) g _ (rw (c .before .e3 .given .1) at (c .before .before .before .read-fb-type .ensures)))
+    fb-type-found (now (a .s)) (v .0 .0) (rw (v .1) at (c .before .before .before .before .before .before .before .before .before .before .before .before .tables-of .ensures)) (a .index) (c .before .before .before .before .before .before .before .before .if1 .left) _ (ap wayFrom (c .before .before .before .before .before .p .given .1)) (c .before .before .before .before .before .before .before .skip-fb-types .ensures) (ap fbTypeStep (c .before .e3 .given .1)) (c .before .before .before .read-fb-type .ensures)
 
 returns-5 : tie.Need-returns-5
 returns-5 c =
     let a = c .before .before .before .before .before .before .before .before .before .before .before .before .before .before .args in
     let v = c .before .before .before .before .before .before .before .before .before .before .t .given in
-    let w = c .before .before .before .before .before .p .given in
-    let g = goes-told (many (a .index) fbType) (now (a .s)) (v .0 .0 .«fb_types» .at) (ap wayFrom (w .1)) (c .before .before .before .before .before .before .before .skip-fb-types .ensures) in
-    let x = rw (c .before .d .given .1) at (c .before .before .before .read-fb-type .ensures) in
-    record {
-      fields = x .fields;
-      count = x .count;
-      is = fb-type-found (now (a .s)) (v .0 .0) (rw (v .1) at (c .before .before .before .before .before .before .before .before .before .before .before .before .tables-of .ensures)) (a .index) (c .before .before .before .before .before .before .before .before .if1 .left) (w .0 .0) g _ _ (x .reads);
-      holds = fields-hold (now (a .s)) (w .0 .0) _ _ _ (x .reads) (x .count);
-    }
+    fb-type-found (now (a .s)) (v .0 .0) (rw (v .1) at (c .before .before .before .before .before .before .before .before .before .before .before .before .tables-of .ensures)) (a .index) (c .before .before .before .before .before .before .before .before .if1 .left) _ (ap wayFrom (c .before .before .before .before .before .p .given .1)) (c .before .before .before .before .before .before .before .skip-fb-types .ensures) (ap fbTypeStep (c .before .d .given .1)) (c .before .before .before .read-fb-type .ensures)
 
 pub find-fb-type-spec : {M : Type 1} → statement M
 find-fb-type-spec =

@@ -4,17 +4,13 @@ use Prim.Native.Nat.{_+_, _*_, _≤_}
 use native.Mathlib.Omega.{arith}
 use lib.ListN.{length}
 use denote.Ref.{now}
-use Rattle.reading.specs.Answer.{itemOf, indexed}
-use Rattle.reading.specs.Places.{stops, item}
-use Rattle.reading.proofs.Passing.{reads-told}
-use Rattle.reading.proofs.Tables.{holds-fits, holds-out}
+use Rattle.reading.proofs.Tables.{holds-found, holds-fits, holds-out}
 use Rattle.format.specs.Faults.{noEntry}
-use Rattle.format.specs.Types.{field, typeTables}
-use Rattle.base.specs.Error.{faultOf}
-use Rattle.type_entries.specs.Answers.{fieldIn, fieldStep}
+use Rattle.format.specs.Types.{field}
+use Rattle.type_entries.specs.Answers.{fieldStep}
 use Rattle.type_entries.proofs.Entries.{field-width}
-use Rattle.format.proofs.Answers.{refused-first, found-first}
-use Rattle.type_section.proofs.Finding.{entry-found}
+use Rattle.type_section.specs.Answers.{fbTypePlacedFrom}
+use Rattle.type_section.proofs.Finding.{fields-of, fields-refused}
 use borrow.Author.Needs.{needs}
 use Rattle.type_section.proofs.find_field.Statement.{statement}
 use Rattle.type_section.proofs.find_field.Tie as tie
@@ -22,15 +18,14 @@ use Rattle.type_section.proofs.find_field.Tie as tie
 returns : tie.Need-returns
 returns c =
     let a = c .before .before .before .before .before .before .before .args in
-    let q = rw (c .before .before .before .d .given .1) at (c .before .before .before .before .before .find-fb-type .ensures) in
-    sym (holds-out field (now (a .s)) _ (q .fields) (q .holds) (a .field) noEntry (c .if1 .taken))
-    ∙ found-first (itemOf (typeTables (now (a .s)))) (λ t. indexed noEntry (t .fbTypes) (a .index)) (λ b. indexed noEntry (b .fields) (a .field)) _ (q .is)
+    let q = fields-of (now (a .s)) (a .index) _ (ap fbTypePlacedFrom (c .before .before .before .d .given .1)) (c .before .before .before .before .before .find-fb-type .ensures) in
+    sym (holds-out field (now (a .s)) _ (q .fields) (q .holds) (a .field) noEntry (c .if1 .taken)) ∙ q .is (a .field)
 
 -- the field lies in the section
 fits : (c : tie.Else1) → c .before .before .before .d .given .0 .1 .0 + 4 * c .before .before .before .before .before .before .before .args .field + 4 ≤ length (now (c .before .before .before .before .before .before .before .args .s))
 fits c =
     let a = c .before .before .before .before .before .before .before .args in
-    let q = rw (c .before .before .before .d .given .1) at (c .before .before .before .before .before .find-fb-type .ensures) in
+    let q = fields-of (now (a .s)) (a .index) _ (ap fbTypePlacedFrom (c .before .before .before .d .given .1)) (c .before .before .before .before .before .find-fb-type .ensures) in
     holds-fits field (now (a .s)) _ (q .fields) (q .holds) field-width (omega arith) (a .field) (c .if1 .left)
 
 mul-read-field : tie.Need-mul-read-field
@@ -40,31 +35,19 @@ add-read-field : tie.Need-add-read-field
 add-read-field c = omega (arith, fits c)
 
 returns-2 : tie.Need-returns-2
-returns-2 c =
-    let a = c .before .before .before .before .before .args in
-    let v = c .before .e .given in
-    refused-first (itemOf (typeTables (now (a .s)))) (λ t. indexed noEntry (t .fbTypes) (a .index)) (λ t b. indexed noEntry (b .fields) (a .field)) (faultOf (v .0 .0))
-    (rw (v .1) at (c .before .before .before .find-fb-type .ensures))
+returns-2 c = let a = c .before .before .before .before .before .args in fields-refused (now (a .s)) (a .index) (a .field) _ (ap fbTypePlacedFrom (c .before .e .given .1)) (c .before .before .before .find-fb-type .ensures)
 
 returns-3 : tie.Need-returns-3
 returns-3 c =
     let a = c .before .before .before .before .before .before .before .before .before .before .before .args in
-    let d = c .before .before .before .before .before .before .before .d .given in
-    let q = rw (d .1) at (c .before .before .before .before .before .before .before .before .before .find-fb-type .ensures) in
-    let w = c .before .e2 .given in
-    let g = reads-told field (now (a .s)) (d .0 .1 .0 + 4 * a .field) (ap fieldStep (w .1)) (c .before .before .before .read-field .ensures) in
-    entry-found field (now (a .s)) _ (q .fields) (q .holds) field-width (a .field) (c .before .before .before .before .if1 .left) noEntry (stops (faultOf (w .0 .0))) g
-    ∙ found-first (itemOf (typeTables (now (a .s)))) (λ t. indexed noEntry (t .fbTypes) (a .index)) (λ b. indexed noEntry (b .fields) (a .field)) _ (q .is)
+    let q = fields-of (now (a .s)) (a .index) _ (ap fbTypePlacedFrom (c .before .before .before .before .before .before .before .d .given .1)) (c .before .before .before .before .before .before .before .before .before .find-fb-type .ensures) in
+    holds-found field (now (a .s)) _ (q .fields) (q .holds) field-width (a .field) (c .before .before .before .before .if1 .left) noEntry (ap fieldStep (c .before .e2 .given .1)) (c .before .before .before .read-field .ensures) ∙ q .is (a .field)
 
 returns-4 : tie.Need-returns-4
 returns-4 c =
     let a = c .before .before .before .before .before .before .before .before .before .before .before .args in
-    let d = c .before .before .before .before .before .before .before .d .given in
-    let q = rw (d .1) at (c .before .before .before .before .before .before .before .before .before .find-fb-type .ensures) in
-    let w = c .before .x .given in
-    let g = reads-told field (now (a .s)) (d .0 .1 .0 + 4 * a .field) (ap fieldStep (w .1)) (c .before .before .before .read-field .ensures) in
-    entry-found field (now (a .s)) _ (q .fields) (q .holds) field-width (a .field) (c .before .before .before .before .if1 .left) noEntry (item (fieldIn (w .0 .0)) (w .0 .1 .0)) g
-    ∙ found-first (itemOf (typeTables (now (a .s)))) (λ t. indexed noEntry (t .fbTypes) (a .index)) (λ b. indexed noEntry (b .fields) (a .field)) _ (q .is)
+    let q = fields-of (now (a .s)) (a .index) _ (ap fbTypePlacedFrom (c .before .before .before .before .before .before .before .d .given .1)) (c .before .before .before .before .before .before .before .before .before .find-fb-type .ensures) in
+    holds-found field (now (a .s)) _ (q .fields) (q .holds) field-width (a .field) (c .before .before .before .before .if1 .left) noEntry (ap fieldStep (c .before .x .given .1)) (c .before .before .before .read-field .ensures) ∙ q .is (a .field)
 
 pub find-field-spec : {M : Type 1} → statement M
 find-field-spec =

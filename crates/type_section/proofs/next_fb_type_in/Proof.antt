@@ -2,10 +2,10 @@
 use mathlib.Core.Path.{ap}
 use native.Mathlib.Omega.{arith}
 use denote.Ref.{now}
-use lib.ListN.{drop, length-drop}
 use Rattle.format.specs.Types.{fbType}
-use Rattle.base.proofs.FileLookups.{step-ends, step-stops}
-use Rattle.type_entries.proofs.Sizes.{fields-left}
+use Rattle.base.proofs.FileLookups.{step-ends}
+use Rattle.type_entries.specs.Answers.{fbTypeStep}
+use Rattle.type_entries.proofs.Sizes.{head-room}
 use Rattle.type_section.specs.Lookups.{withFields}
 use Rattle.type_section.proofs.Finding.{fb-type-step}
 use borrow.Author.Needs.{needs}
@@ -16,22 +16,13 @@ returns : tie.Need-returns
 returns c = let a = c .before .before .args in ap (withFields (a .t)) (step-ends fbType (now (a .s)) (a .t) (c .if1 .taken))
 
 add-t12 : tie.Need-add-t12
-add-t12 c =
-    let a = c .before .before .before .before .before .before .args in
-    let x = rw (c .before .x .given .1) at (c .before .before .before .read-fb-type .ensures) in
-    omega (arith, fields-left (drop (a .t .at) (now (a .s))) _ _ (x .reads) .1, length-drop (a .t .at) (now (a .s)))
+add-t12 c = omega (arith, head-room _ _ (ap fbTypeStep (c .before .x .given .1)) (c .before .before .before .read-fb-type .ensures))
 
 returns-2 : tie.Need-returns-2
-returns-2 c =
-    let a = c .before .before .before .before .before .before .args in
-    ap (withFields (a .t)) (step-stops fbType (now (a .s)) (a .t) (c .before .before .before .before .if1 .left) (rw (c .before .e .given .1) at (c .before .before .before .read-fb-type .ensures)))
+returns-2 c = let a = c .before .before .before .before .before .before .args in fb-type-step (now (a .s)) (a .t) (c .before .before .before .before .if1 .left) (ap fbTypeStep (c .before .e .given .1)) (c .before .before .before .read-fb-type .ensures)
 
 returns-3 : tie.Need-returns-3
-returns-3 c =
-    let a = c .before .before .before .before .before .before .before .args in
-    let v = c .before .before .x .given in
-    let x = rw (v .1) at (c .before .before .before .before .read-fb-type .ensures) in
-    fb-type-step (now (a .s)) (a .t) (c .before .before .before .before .before .if1 .left) _ _ (x .fields) (v .0 .1 .0) (x .count) (x .within) (x .reads)
+returns-3 c = let a = c .before .before .before .before .before .before .before .args in fb-type-step (now (a .s)) (a .t) (c .before .before .before .before .before .if1 .left) (ap fbTypeStep (c .before .before .x .given .1)) (c .before .before .before .before .read-fb-type .ensures)
 
 pub next-fb-type-in-spec : {M : Type 1} → statement M
 next-fb-type-in-spec =

@@ -6,7 +6,7 @@ use denote.Ref.{now}
 use Rattle.reading.proofs.Passing.{Passed, passed-none, passed-all}
 use Rattle.format.specs.Debug.{enumeration}
 use Rattle.debug_text.specs.Answers.{keepIn}
-use Rattle.debug_text.proofs.Walks.{made-stop, made-more}
+use Rattle.reading.proofs.Made.{made-stop, made-more}
 use Rattle.debug_entries.specs.Answers.{entryOf, enumDefStep}
 use borrow.Author.Needs.{needs}
 use Rattle.debug_entries.proofs.enum_defs.skip_enum_defs.Statement.{statement}
