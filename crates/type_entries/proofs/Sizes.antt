@@ -1,4 +1,4 @@
--- How many bytes tables take, and where their entries stand behind a count.
+-- How many bytes tables take, and where an FB type and its fields stand.
 use mathlib.Core.Path.{_≡_, sym, ap, _∙_}
 use mathlib.Core.List.{List, []}
 use Prim.Native.Nat.{ℕ, zero, suc, _+_, _*_, _≤_}

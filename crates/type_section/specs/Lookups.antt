@@ -28,7 +28,7 @@ pub record FbTypeEntry : Type 0 where
 abbrev pub fbTypeEntry : ℕ → FbType → FbTypeEntry
 fbTypeEntry at b = record { head = fbTypeHeadOf b; fields = fieldsStart at b }
 
--- the FB type of an index stands behind the count of FB types and those before it
+-- the FB type of an index stands behind the count of two bytes and the FB types before it
 abbrev pub fbTypeOfSection : List ℕ → ℕ → Got FbTypeEntry
 fbTypeOfSection s i = itemOf (typeTables s) >>= λ t. indexed noEntry (t .fbTypes) i >>= λ b. found (fbTypeEntry (2 + fbTypesSize (take i (t .fbTypes))) b)
 
