@@ -7,6 +7,7 @@ use native.Mathlib.Numerals.{add-one}
 use lib.ListN.{length, getD, take, drop, set, replicate, length-append, length-drop, take-append-drop}
 use lib.Seq.{take-append-le, drop-append-le, length-take-le, take-suc, getD-drop, set-at, append-snoc}
 use borrow.Author.Tests.{le-leb, lt-leb}
+use Rattle.reading.proofs.Parts.{drop-replicate}
 use Rattle.compression.specs.Word.{words}
 use Rattle.compression.specs.Compression.{iv, compress}
 use Rattle.compression.specs.Laws.{words-take}
@@ -66,17 +67,9 @@ filled-more n ps b e h =
     let one : 64 - n ≡ suc (64 - (n + 1)) = omega arith in
     rw one (set-at ps 0 (replicate (64 - (n + 1)) 0) b n e ∙ sym (append-snoc ps b (replicate (64 - (n + 1)) 0)))
 
--- one more of the bytes of s from `at` on
-pub rest-more : (s : List ℕ) (at i : ℕ) {block : List ℕ} → i < length s - at → length s ≤ at + 64 → block ≡ filled i (take i (drop at s))
-    → set block i (getD s (at + i) 0) ≡ filled (i + 1) (take (i + 1) (drop at s))
-rest-more s at i p q e =
-    let ps : List ℕ = take i (drop at s) in
-    let rest = length-drop at s in
-    let next : take (i + 1) (drop at s) ≡ ps ++ (getD s (at + i) 0 ∷ []) =
-    rw (add-one i) (take-suc (drop at s) i 0 (omega arith)) ∙ ap (λ (b : ℕ). ps ++ (b ∷ [])) (getD-drop at s i 0) in
-    ap (λ (x : List ℕ). set x i (getD s (at + i) 0)) e
-    ∙ filled-more i ps (getD s (at + i) 0) (length-take-le i (drop at s) (omega arith)) (omega arith)
-    ∙ ap (filled (i + 1)) (sym next)
+-- bytes copied to the start of an empty block
+pub filled-copy : (ps : List ℕ) (n : ℕ) {xs : List ℕ} → length ps ≡ n → xs ≡ ps → xs ++ drop (0 + length xs) (replicate 64 0) ≡ filled n ps
+filled-copy ps n e ex = let k : 0 + length ps ≡ n = omega arith in rw (ex, k, drop-replicate {A = ℕ} n 64 0)
 
 -- ---- an input of at most one chunk
 

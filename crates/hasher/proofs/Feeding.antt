@@ -27,12 +27,16 @@ pub advanced-chunk : (h : Hasher) (m : List ℕ) → 15 ≤ h .blocks → advanc
 unfolding advanced
 advanced-chunk h m p = rw (le-ltb (h .blocks) 15 p)
 
-pub advanced-len : (h : Hasher) (m : List ℕ) → advanced h m .len ≡ 0
+-- a state whose block is empty
+abbrev pub Empty : Hasher → Type 0
+Empty h = (h .len ≡ 0) × (length (h .block) ≡ 64)
+
+pub advanced-empty : (h : Hasher) (m : List ℕ) → Empty (advanced h m)
 unfolding nextBlock chunkDone nextChunk
-advanced-len h m =
+advanced-empty h m =
     ⊎-elim
-    (λ (p : h .blocks < 15). rw (advanced-block h m p))
-    (λ (p : 15 ≤ h .blocks). rw (advanced-chunk h m p))
+    (λ (p : h .blocks < 15). rw (advanced-block h m p) (refl, refl))
+    (λ (p : 15 ≤ h .blocks). rw (advanced-chunk h m p) (refl, refl))
     (lt-or-le (h .blocks) 15)
 
 pub room-there : (h : Hasher) → h .len < 64 → withRoom h ≡ h
@@ -47,7 +51,7 @@ room-len : (h : Hasher) → withRoom h .len < 64
 room-len h =
     ⊎-elim
     (λ (p : h .len < 64). rw (room-there h p) p)
-    (λ (p : 64 ≤ h .len). rw (room-made h p, advanced-len) (omega arith))
+    (λ (p : 64 ≤ h .len). rw (room-made h p) (let e = advanced-empty h (words (h .block)) in omega arith))
     (lt-or-le (h .len) 64)
 
 -- ---- parts of the input
@@ -77,20 +81,12 @@ byte-held : (h : Hasher) (b : ℕ) (s : List ℕ) → h .len < 64 → fed h (b �
 unfolding fed absorbed
 byte-held h b s p = ap (λ (r : Hasher). fed (holding r (set (r .block) (r .len) b) (r .len + 1)) s) (room-there h p)
 
-pub fed-byte : (h : Hasher) (bytes s : List ℕ) (n i : ℕ) → i < length s → n + i < 64
-    → fed (holding h (set bytes (n + i) (getD s i 0)) (n + (i + 1))) (drop (i + 1) s) ≡ fed (holding h bytes (n + i)) (drop i s)
-fed-byte h bytes s n i p q =
-    let e : n + (i + 1) ≡ n + i + 1 = omega arith in
-    let first : drop i s ≡ getD s i 0 ∷ drop (i + 1) s = rw (add-one i) (drop-cons s i 0 p) in
-    ap (λ (k : ℕ). fed (holding h (set bytes (n + i) (getD s i 0)) k) (drop (i + 1) s)) e
-    ∙ sym (byte-held (holding h bytes (n + i)) (getD s i 0) (drop (i + 1) s) q) ∙ ap (fed (holding h bytes (n + i))) (sym first)
-
 pub fed-none : (h : Hasher) (s : List ℕ) (i : ℕ) → length s ≤ i → fed h (drop i s) ≡ h
 unfolding fed
 fed-none h s i p = ap (fed h) (drop-of-length-le s {i = i} p)
 
 -- bytes for which the block has room
-part-held : (h : Hasher) (xs : List ℕ) → h .len + length xs ≤ 64 → fed h xs ≡ holding h (sets (h .block) (h .len) xs) (h .len + length xs)
+pub part-held : (h : Hasher) (xs : List ℕ) → h .len + length xs ≤ 64 → fed h xs ≡ holding h (sets (h .block) (h .len) xs) (h .len + length xs)
 unfolding fed
 part-held h [] p = let e : h .len ≡ h .len + 0 = omega arith in ap (holding h (h .block)) e
 part-held h (b ∷ xs) p =

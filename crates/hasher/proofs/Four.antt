@@ -1,47 +1,61 @@
--- Whole chunks taken in one behind the other, from where a chunk starts.
-use mathlib.Core.Path.{_≡_, refl, ap, _∙_}
+-- Whole chunks taken in one behind the other.
+use mathlib.Core.Path.{_≡_, refl, ap, ap₂, sym, _∙_}
 use mathlib.Core.List.{List}
-use Prim.Native.Nat.{ℕ, _+_, _*_, _≤_, _<_, _^_}
+use mathlib.Core.Logic.{⊎-elim}
+use Prim.Native.Nat.{ℕ, zero, suc, _+_, _*_, _-_, _≤_, _<_, _^_}
 use native.Mathlib.Omega.{arith}
 use native.Mathlib.Numerals.{add-one}
 use lib.ListN.{length, drop, length-drop}
 use lib.Seq.{drop-drop}
+use borrow.Author.Tests.{lt-ltb, le-ltb}
 use Rattle.wide.specs.Lanes.{counter, chunkValue, from}
-use Rattle.hasher.specs.State.{chunkDone, fed}
+use Rattle.hasher.specs.State.{chunkDone, chunksDone, atOnce, fed}
 use Rattle.hasher.specs.declared.Hasher.{Hasher}
-use Rattle.hasher.proofs.Feeding.{fed-chunk}
+use Rattle.hasher.proofs.Stacking.{lt-or-le}
+use Rattle.hasher.proofs.Feeding.{Empty, fed-chunk}
 
--- the state h has what h₀ makes of i chunks of s behind the place `at`
-pub record Passed (h₀ h : Hasher) (s : List ℕ) (at i : ℕ) : Type 0 where
+-- feeding them, with more behind them
+pub fed-chunks : (n : ℕ) (h : Hasher) (s : List ℕ) → h .len ≡ 0 → length (h .block) ≡ 64 → h .blocks ≡ 0 → 1024 * n < length s
+    → fed h s ≡ fed (chunksDone n h s) (drop (1024 * n) s)
+unfolding chunkDone chunksDone
+fed-chunks zero h s z l b p = refl
+fed-chunks (suc n) h s z l b p =
+    let d : 1024 + 1024 * n ≡ 1024 * suc n = omega arith in
+    fed-chunk h s z l b (omega arith)
+    ∙ fed-chunks n (chunkDone h (chunkValue (h .cv) (h .chunks) s)) (drop 1024 s) refl refl refl (omega (arith, length-drop 1024 s))
+    ∙ ap (fed (chunksDone (suc n) h s)) (drop-drop (1024 * n) 1024 s ∙ ap (λ (k : ℕ). drop k s) d)
+
+-- as many as are taken at once
+pub at-once-fits : (left : ℕ) → 1024 < left → (1024 * atOnce left < left) × (0 < atOnce left)
+at-once-fits left p = ⊎-elim
+    (λ (q : 4096 < left). rw (lt-ltb 4096 left q) (omega arith, omega arith))
+    (λ (q : left ≤ 4096). rw (le-ltb 4096 left q) (omega arith, omega arith))
+    (lt-or-le 4096 left)
+
+pub chunks-empty : (n : ℕ) (h : Hasher) (s : List ℕ) → Empty h → Empty (chunksDone n h s)
+unfolding chunkDone chunksDone
+chunks-empty zero h s z = z
+chunks-empty (suc n) h s z = chunks-empty n (chunkDone h (chunkValue (h .cv) (h .chunks) s)) (drop 1024 s) (refl, refl)
+
+-- h is what h₀ becomes with i of four chunks: with the others it becomes what h₀ does with all
+pub record Passed (h₀ h : Hasher) (s : List ℕ) (i : ℕ) : Type 0 where
   pub within : i ≤ 4
-  pub len : h .len ≡ 0
-  pub blocks : h .blocks ≡ 0
-  pub block : length (h .block) ≡ 64
   pub cv : h .cv ≡ from (h₀ .cv) i
   pub chunks : h .chunks ≡ counter (h₀ .chunks) i
-  pub same : fed h (drop (at + 1024 * i) s) ≡ fed h₀ (drop at s)
+  pub same : chunksDone (4 - i) h (drop (1024 * i) s) ≡ chunksDone 4 h₀ s
 
-pub passed-none : (h : Hasher) (s : List ℕ) (at : ℕ) → h .len ≡ 0 → h .blocks ≡ 0 → length (h .block) ≡ 64 → h .chunks < 2 ^ 64 → Passed h h s at 0
-passed-none h s at z b l n =
-    let e : at + 1024 * 0 ≡ at = omega arith in
-    record { within = omega arith; len = z; blocks = b; block = l; cv = refl; chunks = omega arith; same = ap (λ (k : ℕ). fed h (drop k s)) e }
+pub passed-none : (h : Hasher) (s : List ℕ) → h .chunks < 2 ^ 64 → Passed h h s 0
+passed-none h s n = record { within = omega arith; cv = refl; chunks = omega arith; same = refl }
 
 -- one more
-pub passed-more : (h₀ h : Hasher) (s : List ℕ) (at i : ℕ) {v : List ℕ} {r : Hasher} → Passed h₀ h s at i → i < 4 → at + 4096 < length s
-    → v ≡ chunkValue (from (h₀ .cv) i) (counter (h₀ .chunks) i) (drop (at + 1024 * i) s) → r ≡ chunkDone h v → Passed h₀ r s at (i + 1)
-unfolding chunkDone
-passed-more h₀ h s at i {v = v} p q more ev er =
-    let d : at + 1024 * i + 1024 ≡ at + 1024 * (i + 1) = omega arith in
-    let step = fed-chunk h (drop (at + 1024 * i) s) (p .len) (p .block) (p .blocks) (omega (arith, length-drop (at + 1024 * i) s)) in
-    let next : fed (chunkDone h v) (drop (at + 1024 * (i + 1)) s) ≡ fed h (drop (at + 1024 * i) s) =
-    cc (step, drop-drop 1024 (at + 1024 * i) s, p .cv, p .chunks) in
-    rw er
-    (record {
-      within = omega arith;
-      len = refl;
-      blocks = refl;
-      block = refl;
-      cv = rw add-one refl;
-      chunks = rw (p .chunks) (omega arith);
-      same = next ∙ p .same;
-    })
+pub passed-more : (h₀ h : Hasher) (s : List ℕ) (i : ℕ) {v : List ℕ} {r : Hasher} → Passed h₀ h s i → i < 4
+    → v ≡ chunkValue (from (h₀ .cv) i) (counter (h₀ .chunks) i) (drop (1024 * i) s) → r ≡ chunkDone h v → Passed h₀ r s (i + 1)
+unfolding chunkDone chunksDone
+passed-more h₀ h s i {v = v} p q ev er =
+    let k : 4 - i ≡ suc (4 - (i + 1)) = omega arith in
+    let d : 1024 * i + 1024 ≡ 1024 * (i + 1) = omega arith in
+    let e : chunkValue (h .cv) (h .chunks) (drop (1024 * i) s) ≡ v = cc (ev, p .cv, p .chunks) in
+    let next : chunksDone (4 - (i + 1)) (chunkDone h v) (drop (1024 * (i + 1)) s) ≡ chunksDone (4 - i) h (drop (1024 * i) s) =
+    ap₂ (λ (w : List ℕ) (x : List ℕ). chunksDone (4 - (i + 1)) (chunkDone h w) x) (sym e) (sym (drop-drop 1024 (1024 * i) s ∙ ap (λ (j : ℕ). drop j s) d))
+    ∙ ap (λ (j : ℕ). chunksDone j h (drop (1024 * i) s)) (sym k) in
+    rw er (record { within = omega arith; cv = rw add-one refl; chunks = rw (p .chunks) (omega arith); same = next ∙ p .same })

@@ -1,6 +1,7 @@
 pub mod Stacking
 pub mod Feeding
 pub mod Four
+pub mod Turns
 pub mod Zeros
 pub mod Tree
 pub mod Chunks

@@ -16,6 +16,7 @@ use compression::join;
 use compression::start_flag;
 use compression::words_at;
 use compression::words_of;
+use reading::copy;
 use unrolled::compress;
 use unrolled::compress_in_place;
 use wide::chunks4;
@@ -66,12 +67,6 @@ pub struct Hasher {
     pub stack: Stack,
     // How many chunks are finished.
     pub chunks: u64,
-}
-
-// A state, and how far the input was taken in.
-struct Step {
-    hasher: Hasher,
-    at: usize,
 }
 
 impl Node {
@@ -195,6 +190,13 @@ fn chunk_value(cv: [u32; 8], s: &[u8], at: usize, t: u64) -> [u32; 8]
     compress(c, words_at(s, at + 960), t, 64, CHUNK_END)
 }
 
+// How many whole chunks are taken at once where `left` bytes are left: four if more follows them, or one.
+fn at_once(left: usize) -> usize
+    ensures { λ r. ⌜ r ≡ T.atOnce left ⌝ }
+{
+    if FOUR_CHUNKS < left { 4 } else { 1 }
+}
+
 impl Hasher {
     pub fn new() -> Hasher
         ensures { λ r. ⌜ r ≡ T.start ⌝ }
@@ -273,47 +275,10 @@ impl Hasher {
         self.chunk_done(last.value())
     }
 
-    // More input follows: a full block is taken in.
-    fn with_room(self) -> Hasher
-        ensures { λ r. ⌜ (r ≡ T.withRoom self) × (r .len < 64) ⌝ }
-    {
-        if self.len < 64 {
-            return self;
-        }
-        let bytes = self.block;
-        self.advance(words_of(bytes))
-    }
-
-    // Whole blocks of `s` from `at` on, straight from the slice: as many as the current chunk has room for, or its last one.
-    // More input follows them.
-    fn take_blocks(self, s: &[u8], at: usize) -> Step
-        requires { ⌜ (self .len ≡ 0) × (at + 64 < length (now s)) ⌝ }
-        ensures { λ r. ⌜ (T.fed (r .hasher) (drop (r .at) (now (s .entry))) ≡ T.fed self (drop at (now (s .entry)))) × (at < r .at) × (r .at < length (now (s .entry))) ⌝ }
-    {
-        if self.blocks < 15 {
-            let n = least(15 - (self.blocks as usize), (s.len() - at - 1) / BLOCK_LEN);
-            let cv = self.cv;
-            let next = chain(cv, s, at, n, self.counter(), self.blocks);
-            let empty = [0u8; 64];
-            let mut h = self;
-            h.cv = next;
-            h.block = empty;
-            h.blocks = self.blocks + (n as u32);
-            return Step {
-                hasher: h,
-                at: at + BLOCK_LEN * n,
-            };
-        }
-        Step {
-            hasher: self.advance(words_at(s, at)),
-            at: at + BLOCK_LEN,
-        }
-    }
-
-    // Four whole chunks of `s` from `at` on, side by side. More input follows them.
+    // Four whole chunks of `s` from `at` on, side by side.
     fn take_chunks(self, s: &[u8], at: usize) -> Hasher
-        requires { ⌜ (self .len ≡ 0) × (self .blocks ≡ 0) × (at + 4096 < length (now s)) ⌝ }
-        ensures { λ r. ⌜ T.fed r (drop (at + 4096) (now (s .entry))) ≡ T.fed self (drop at (now (s .entry))) ⌝ }
+        requires { ⌜ at + 4096 ≤ length (now s) ⌝ }
+        ensures { λ r. ⌜ r ≡ T.chunksDone 4 self (drop at (now (s .entry))) ⌝ }
     {
         let cv = self.cv;
         let values = chunks4(cv, s, at, self.counter());
@@ -326,72 +291,60 @@ impl Hasher {
         h
     }
 
-    // A whole chunk of `s` from `at` on. More input follows it.
+    // A whole chunk of `s` from `at` on.
     fn take_chunk(self, s: &[u8], at: usize) -> Hasher
-        requires { ⌜ (self .len ≡ 0) × (self .blocks ≡ 0) × (at + 1024 < length (now s)) ⌝ }
-        ensures { λ r. ⌜ T.fed r (drop (at + 1024) (now (s .entry))) ≡ T.fed self (drop at (now (s .entry))) ⌝ }
+        requires { ⌜ at + 1024 ≤ length (now s) ⌝ }
+        ensures { λ r. ⌜ r ≡ T.chunksDone 1 self (drop at (now (s .entry))) ⌝ }
     {
         let cv = self.cv;
         let value = chunk_value(cv, s, at, self.counter());
         self.chunk_done(value)
     }
 
-    // As `take_blocks`, and where a chunk starts four chunks at once, or one.
-    fn take_whole(self, s: &[u8], at: usize) -> Step
-        requires { ⌜ (self .len ≡ 0) × (at + 64 < length (now s)) ⌝ }
-        ensures { λ r. ⌜ (T.fed (r .hasher) (drop (r .at) (now (s .entry))) ≡ T.fed self (drop at (now (s .entry)))) × (at < r .at) × (r .at < length (now (s .entry))) ⌝ }
+    // Whole chunks of `s` from `at` on, as many as `at_once` says.
+    fn take_whole(self, s: &[u8], at: usize) -> Hasher
+        requires { ⌜ at + 1024 ≤ length (now s) ⌝ }
+        ensures { λ r. ⌜ r ≡ T.chunksDone (T.atOnce (length (now (s .entry)) - at)) self (drop at (now (s .entry))) ⌝ }
     {
-        if self.blocks == 0 && FOUR_CHUNKS < s.len() - at {
-            return Step {
-                hasher: self.take_chunks(s, at),
-                at: at + FOUR_CHUNKS,
-            };
+        if FOUR_CHUNKS < s.len() - at {
+            return self.take_chunks(s, at);
         }
-        if self.blocks == 0 && CHUNK_LEN < s.len() - at {
-            return Step {
-                hasher: self.take_chunk(s, at),
-                at: at + CHUNK_LEN,
-            };
-        }
-        self.take_blocks(s, at)
+        self.take_chunk(s, at)
     }
 
-    // The bytes of `part`, for which the block has room.
-    fn take_part(self, part: &[u8]) -> Hasher
-        requires { ⌜ self .len + length (now part) ≤ 64 ⌝ }
-        ensures { λ r. ⌜ r ≡ T.fed self (now (part .entry)) ⌝ }
-    {
-        let mut h = self;
-        let mut bytes = h.block;
-        let len = h.len as usize;
-        for i in 0..part.len() {
-            bytes[len + i] = part[i];
-        }
-        h.block = bytes;
-        h.len = h.len + (part.len() as u32);
-        h
-    }
-
-    // The state fed with the bytes of `s`.
+    // The state fed with the bytes of `s`. The values that wait are copied at a chunk's end alone.
     pub fn update(self, s: &[u8]) -> Hasher
         ensures { λ r. ⌜ r ≡ T.fed self (now (s .entry)) ⌝ }
     {
         let mut h = self;
         let mut at = 0;
         while at < s.len() {
-            let room = h.with_room();
             let left = s.len() - at;
-            if room.len == 0 && BLOCK_LEN < left {
-                let step = room.take_whole(s, at);
-                let next = step.hasher;
+            let len = h.len as usize;
+            let blocks = h.blocks;
+            let mut bytes = h.block;
+            if BLOCK_LEN <= len {
+                let next = h.advance(words_of(bytes));
                 h = next;
-                at = step.at;
+            } else if len == 0 && blocks == 0 && CHUNK_LEN < left {
+                let next = h.take_whole(s, at);
+                h = next;
+                at += CHUNK_LEN * at_once(left);
+            } else if len == 0 && blocks < 15 && BLOCK_LEN < left {
+                let n = least(15 - (blocks as usize), (left - 1) / BLOCK_LEN);
+                let cv = h.cv;
+                let t = h.counter();
+                let next = chain(cv, s, at, n, t, blocks);
+                h.cv = next;
+                h.block = [0u8; 64];
+                h.blocks = blocks + (n as u32);
+                at += BLOCK_LEN * n;
             } else {
-                let n = least(BLOCK_LEN - (room.len as usize), left);
-                let end = at + n;
-                let next = room.take_part(&s[at..end]);
-                h = next;
-                at = end;
+                let n = least(BLOCK_LEN - len, left);
+                copy(&mut bytes, len, &s[at..at + n]);
+                h.block = bytes;
+                h.len = (len + n) as u32;
+                at += n;
             }
         }
         h
@@ -422,10 +375,7 @@ fn rest_of(s: &[u8], at: usize) -> [u8; 64]
     ensures { λ r. ⌜ r ≡ T.filled (length (now (s .entry)) - at) (drop at (now (s .entry))) ⌝ }
 {
     let mut block = [0u8; 64];
-    let n = s.len() - at;
-    for i in 0..n {
-        block[i] = s[at + i];
-    }
+    copy(&mut block, 0, &s[at..]);
     block
 }
 

@@ -1,4 +1,3 @@
 pub mod Found
 pub mod Numbers
-pub mod Runs
 pub mod Masking

@@ -1,70 +1,65 @@
--- The masked header is its bytes masked one by one.
-use Prim.Native.Nat.{ℕ, _≤_, _<_}
+-- An image of zeros, filled from the front: what was copied to it, and zeros behind that.
+use Prim.Native.Nat.{ℕ, suc, _+_, _-_, _≤_}
 use native.Mathlib.Omega.{arith}
-use mathlib.Core.Path.{_≡_, ap, _∙_}
-use mathlib.Core.List.{List, [], _∷_}
-use lib.ListN.{length, getD}
-use borrow.Author.Tests.{lt-ltb, le-ltb}
-use Rattle.reading.specs.Numbers.{leAt}
+use mathlib.Core.Path.{_≡_, refl, sym, ap, _∙_}
+use mathlib.Core.List.{List, [], _∷_, _++_, append-nil, append-assoc}
+use lib.ListN.{length, take, drop, set, getD, replicate, length-append, length-replicate, replicate-append-replicate}
+use lib.Seq.{take-at, drop-drop, drop-at, set-at, append-snoc}
+use Rattle.reading.proofs.Parts.{drop-replicate, length-part}
 use Rattle.reading.proofs.Le.{leAt-one}
+use Rattle.format.specs.Parts.{part}
 use Rattle.format.specs.Header.{withoutDebugBit}
 use Rattle.format.specs.Integrity.{maskedHeader}
-use Rattle.header.specs.Masked.{maskedByte}
-use Rattle.header.proofs.Runs.{run, run-one, run-join, run-part, run-same}
 
--- each range of places
-module _ (i b : ℕ) where
-  pub identification : i < 7 → maskedByte i b ≡ b
-  unfolding maskedByte
-  identification h = rw (lt-ltb i 7 h)
+abbrev zeros : ℕ → List ℕ
+zeros n = replicate n 0
 
-  pub flags : 7 ≤ i → i < 8 → maskedByte i b ≡ withoutDebugBit b
-  unfolding maskedByte
-  flags l h = rw (le-ltb i 7 l, lt-ltb i 8 h)
+-- `filled` and n zeros
+abbrev pub image : List ℕ → ℕ → List ℕ
+image filled n = filled ++ zeros n
 
-  pub content-hash : 8 ≤ i → i < 40 → maskedByte i b ≡ 0
-  unfolding maskedByte
-  content-hash l h = rw (le-ltb i 7 (omega arith), le-ltb i 8 l, lt-ltb i 40 h)
+-- a part copied to the place `at`, z zeros behind what is filled
+pub copied : (filled xs : List ℕ) (at z n r : ℕ) {before after : List ℕ} → at ≡ length filled + z → n ≡ z + (length xs + r) → before ≡ image filled n
+    → after ≡ take at before ++ xs ++ drop (at + length xs) before → after ≡ image (filled ++ zeros z ++ xs) r
+copied filled xs at z n r ea en eb ec =
+    let split : image filled n ≡ (filled ++ zeros z) ++ zeros (length xs + r) =
+    ap (image filled) en ∙ ap (λ (x : List ℕ). filled ++ x) (sym (replicate-append-replicate z (length xs + r) 0)) ∙ sym (append-assoc filled (zeros z) (zeros (length xs + r))) in
+    let l : length (filled ++ zeros z) ≡ at = length-append filled (zeros z) ∙ ap (λ (k : ℕ). length filled + k) (length-replicate z 0) ∙ sym ea in
+    let m : length xs + r - length xs ≡ r = omega arith in
+    ec
+    ∙ rw (eb, split, take-at (filled ++ zeros z) (zeros (length xs + r)) at l)
+    (ap (λ (x : List ℕ). filled ++ zeros z ++ xs ++ x)
+    (sym (drop-drop (length xs) at ((filled ++ zeros z) ++ zeros (length xs + r)))
+    ∙ ap (drop (length xs)) (drop-at (filled ++ zeros z) (zeros (length xs + r)) at l) ∙ drop-replicate {A = ℕ} (length xs) (length xs + r) 0 ∙ ap zeros m))
 
-  pub reserved-hash : 40 ≤ i → i < 72 → maskedByte i b ≡ b
-  unfolding maskedByte
-  reserved-hash l h = rw (le-ltb i 7 (omega arith), le-ltb i 8 (omega arith), le-ltb i 40 l, lt-ltb i 72 h)
+-- a byte put right behind what is filled
+pub byte-put : (filled : List ℕ) (b at n : ℕ) {before : List ℕ} → at ≡ length filled → before ≡ image filled (suc n) → set before at b ≡ image (filled ++ (b ∷ [])) n
+byte-put filled b at n ea eb =
+    ap (λ (x : List ℕ). set x at b) eb ∙ set-at filled 0 (zeros n) b at (sym ea) ∙ sym (append-snoc filled b (zeros n))
 
-  pub debug-hash : 72 ≤ i → i < 104 → maskedByte i b ≡ 0
-  unfolding maskedByte
-  debug-hash l h = rw (le-ltb i 7 (omega arith), le-ltb i 8 (omega arith), le-ltb i 40 (omega arith), le-ltb i 72 l, lt-ltb i 104 h)
-
-  pub layout-hash : 104 ≤ i → i < 136 → maskedByte i b ≡ b
-  unfolding maskedByte
-  layout-hash l h = rw (le-ltb i 7 (omega arith), le-ltb i 8 (omega arith), le-ltb i 40 (omega arith), le-ltb i 72 (omega arith), le-ltb i 104 l, lt-ltb i 136 h)
-
-  pub directory : 136 ≤ i → i < 192 → maskedByte i b ≡ 0
-  unfolding maskedByte
-  directory l h = rw (le-ltb i 7 (omega arith), le-ltb i 8 (omega arith), le-ltb i 40 (omega arith), le-ltb i 72 (omega arith), le-ltb i 104 (omega arith), le-ltb i 136 l, lt-ltb i 192 h)
-
-  pub behind-directory : 192 ≤ i → maskedByte i b ≡ b
-  unfolding maskedByte
-  behind-directory l = rw (le-ltb i 7 (omega arith), le-ltb i 8 (omega arith), le-ltb i 40 (omega arith), le-ltb i 72 (omega arith), le-ltb i 104 (omega arith), le-ltb i 136 (omega arith), le-ltb i 192 l)
-
--- the masked byte at a place of a file
-abbrev pub maskedAt : List ℕ → ℕ → ℕ
-maskedAt f i = maskedByte i (getD f i 0)
-
-flags-of : (f : List ℕ) → 256 ≤ length f → run (maskedAt f) 7 1 ≡ withoutDebugBit (leAt 1 f 7) ∷ []
-flags-of f l =
-    run-one (maskedAt f) 7 ∙ ap (λ (x : ℕ). x ∷ []) (flags 7 (getD f 7 0) (omega arith) (omega arith)) ∙ rw (leAt-one f 7 (omega arith))
-
-pub masked-is-run : (f : List ℕ) → 256 ≤ length f → run (maskedAt f) 0 256 ≡ maskedHeader f
+-- the image with each part copied in its turn
+pub masked-by : (f : List ℕ) {a b c d : List ℕ} {w : ℕ} → 256 ≤ length f
+    → a ≡ take 0 (zeros 256) ++ part 0 7 f ++ drop (0 + length (part 0 7 f)) (zeros 256)
+    → w ≡ withoutDebugBit (getD f 7 0)
+    → b ≡ take 40 (set a 7 w) ++ part 40 32 f ++ drop (40 + length (part 40 32 f)) (set a 7 w)
+    → c ≡ take 104 b ++ part 104 32 f ++ drop (104 + length (part 104 32 f)) b
+    → d ≡ take 192 c ++ part 192 64 f ++ drop (192 + length (part 192 64 f)) c
+    → d ≡ maskedHeader f
 unfolding maskedHeader
-masked-is-run f l =
-    let g = maskedAt f in
-    let identified = run-part g f 0 7 (omega arith) (λ i p q. identification i _ q) in
-    let contents = run-same g 0 8 32 (λ i p q. content-hash i _ p q) in
-    let reserved = run-part g f 40 32 (omega arith) (λ i p q. reserved-hash i _ p q) in
-    let debugs = run-same g 0 72 32 (λ i p q. debug-hash i _ p q) in
-    let layouts = run-part g f 104 32 (omega arith) (λ i p q. layout-hash i _ p q) in
-    let sections = run-same g 0 136 56 (λ i p q. directory i _ p q) in
-    let rest = run-part g f 192 64 (omega arith) (λ i p q. behind-directory i _ p) in
-    let a = run-join g 0 7 33 identified (run-join g 7 1 32 (flags-of f l) contents) in
-    let b = run-join g 0 72 32 (run-join g 0 40 32 a reserved) debugs in
-    run-join g 0 192 64 (run-join g 0 136 56 (run-join g 0 104 32 b layouts) sections) rest
+masked-by f {w = w} l ea ew eb ec ed =
+    let n0 : length (part 0 7 f) ≡ 7 = length-part f 0 7 (omega arith) in
+    let n1 : length (part 40 32 f) ≡ 32 = length-part f 40 32 (omega arith) in
+    let n2 : length (part 104 32 f) ≡ 32 = length-part f 104 32 (omega arith) in
+    let n3 : length (part 192 64 f) ≡ 64 = length-part f 192 64 (omega arith) in
+    let first = part 0 7 f ++ (w ∷ []) in
+    let second = first ++ zeros 32 ++ part 40 32 f in
+    let third = second ++ zeros 32 ++ part 104 32 f in
+    let m1 : length first ≡ 8 = omega (arith, length-append (part 0 7 f) (w ∷ [])) in
+    let m2 : length second ≡ 72 = omega (arith, length-append (first ++ zeros 32) (part 40 32 f), length-append first (zeros 32)) in
+    let m3 : length third ≡ 136 = omega (arith, length-append (second ++ zeros 32) (part 104 32 f), length-append second (zeros 32)) in
+    let e0 = copied [] (part 0 7 f) 0 0 256 249 (omega arith) (omega arith) refl ea in
+    let e1 = byte-put (part 0 7 f) w 7 248 (sym n0) e0 in
+    let e2 = copied first (part 40 32 f) 40 32 248 184 (omega arith) (omega arith) e1 eb in
+    let e3 = copied second (part 104 32 f) 104 32 184 120 (omega arith) (omega arith) e2 ec in
+    let e4 = copied third (part 192 64 f) 192 56 120 0 (omega arith) (omega arith) e3 ed in
+    e4 ∙ append-nil (third ++ zeros 56 ++ part 192 64 f) ∙ rw (append-snoc (part 0 7 f) w (zeros 32), ew, leAt-one f 7 (omega arith))

@@ -4,6 +4,7 @@ use base::digest::digest_at;
 use base::error::ContainerError;
 pub use base::section::HEADER_SIZE;
 use base::section::Section;
+use reading::copy;
 use reading::u8_at;
 use reading::u16_at;
 use reading::u32_at;
@@ -16,7 +17,6 @@ ghost use Rattle.format.specs.Header.{placeAt, directoryOf, runtimeOf, headerOf
 ghost use Rattle.format.specs.Integrity.{maskedHeader};
 ghost use Rattle.base.specs.Section.{placeIn};
 ghost use Rattle.header.specs.Answers.{directoryIn, runtimeIn, reservedBytes, headerFrom};
-ghost use Rattle.header.specs.Masked.{maskedByte};
 
 // "IPLC", its last letter first.
 pub const MAGIC: u32 = 0x49504C43;
@@ -205,42 +205,28 @@ pub fn without_debug_bit(flags: u8) -> u8
     flags - FLAG_HAS_DEBUG_SECTION * (flags / FLAG_HAS_DEBUG_SECTION % 2)
 }
 
-// The byte `b` at the place `i` of the header, as the content hash covers it.
-fn masked_byte(i: usize, b: u8) -> u8
-    ensures { λ r. ⌜ r ≡ maskedByte i b ⌝ }
-{
-    if i < FLAGS_OFFSET {
-        return b;
-    }
-    if i < CONTENT_HASH_START {
-        return without_debug_bit(b);
-    }
-    if i < CONTENT_HASH_END {
-        return 0;
-    }
-    if i < DEBUG_HASH_START {
-        return b;
-    }
-    if i < DEBUG_HASH_END {
-        return 0;
-    }
-    if i < SECTION_DIRECTORY_START {
-        return b;
-    }
-    if i < SECTION_DIRECTORY_END {
-        return 0;
-    }
-    b
-}
-
-// The header as the content hash covers it.
+// The header as the content hash covers it: without the debug bit, and zero where the two hashes and the directory stand.
 pub fn masked(file: &[u8]) -> [u8; 256]
     requires { ⌜ 256 ≤ length (now file) ⌝ }
     ensures { λ r. ⌜ r ≡ maskedHeader (now (file .entry)) ⌝ }
 {
     let mut image = [0u8; 256];
-    for i in 0..HEADER_SIZE {
-        image[i] = masked_byte(i, file[i]);
-    }
+    copy(&mut image, 0, &file[0..FLAGS_OFFSET]);
+    image[FLAGS_OFFSET] = without_debug_bit(file[FLAGS_OFFSET]);
+    copy(
+        &mut image,
+        CONTENT_HASH_END,
+        &file[CONTENT_HASH_END..DEBUG_HASH_START],
+    );
+    copy(
+        &mut image,
+        DEBUG_HASH_END,
+        &file[DEBUG_HASH_END..SECTION_DIRECTORY_START],
+    );
+    copy(
+        &mut image,
+        SECTION_DIRECTORY_END,
+        &file[SECTION_DIRECTORY_END..HEADER_SIZE],
+    );
     image
 }

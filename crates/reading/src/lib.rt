@@ -1,7 +1,8 @@
-// Numbers at a place of a slice, low byte first, and the place of a table.
+// Numbers at a place of a slice, low byte first, the place of a table, and bytes copied.
 ghost use mathlib.Core.Path.{_≡_};
+ghost use mathlib.Core.List.{_++_};
 ghost use Prim.Native.Nat.{_+_, _≤_, _<_};
-ghost use lib.ListN.{length};
+ghost use lib.ListN.{length, take, drop};
 ghost use Rattle.reading.specs.Numbers.{leAt};
 
 // A table: where its next entry stands, and how many entries there are from there on. It is the cursor of a walk too.
@@ -43,4 +44,14 @@ pub fn u64_at(s: &[u8], at: usize) -> u64
     ensures { λ r. ⌜ r ≡ leAt 8 (now (s .entry)) at ⌝ }
 {
     (u32_at(s, at) as u64) + 4294967296 * (u32_at(s, at + 4) as u64)
+}
+
+// The bytes of `part` copied to the place `at` of `out`.
+pub fn copy(out: &mut [u8], at: usize, part: &[u8])
+    requires { ⌜ at + length (now part) ≤ length (now out) ⌝ }
+    ensures { λ _. ⌜ now (out .exit) ≡ take at (now (out .entry)) ++ now (part .entry) ++ drop (at + length (now (part .entry))) (now (out .entry)) ⌝ }
+{
+    for i in 0..part.len() {
+        out[at + i] = part[i];
+    }
 }

@@ -1,36 +1,38 @@
 -- `hasher::Hasher::take_chunks` meets its contract. The loop's invariant: what the state has made of the chunks passed.
-use mathlib.Core.Path.{_≡_, ap, _∙_}
+use mathlib.Core.Path.{_≡_, sym, ap, ap₂, _∙_}
+use mathlib.Core.List.{List}
 use Prim.Native.Nat.{ℕ, _+_, _*_, _-_}
 use native.Mathlib.Omega.{arith}
 use lib.ListN.{drop}
+use lib.Seq.{drop-drop}
 use Rattle.wide.specs.Lanes.{counter, chunkValue, from}
+use Rattle.hasher.specs.State.{chunksDone}
 use Rattle.hasher.proofs.Four.{Passed, passed-none, passed-more}
 use borrow.Author.Needs.{needs}
 use Rattle.hasher.proofs.Hasher.take_chunks.Statement.{statement}
 use Rattle.hasher.proofs.Hasher.take_chunks.Tie as tie
 
 abbrev Inv-loop : tie.InvT-loop
-Inv-loop s at values h₀ i₀ h i = Passed h₀ h s at i
+Inv-loop s at values h₀ i₀ h i = Passed h₀ h (drop at s) i
 
 abbrev μ-loop : tie.MeasureT-loop
 μ-loop s at values h₀ i₀ h i = 4 - i
 
 loop-holds : tie.Need-loop-holds Inv-loop μ-loop
-loop-holds c =
-    let a = c .before .before .before .before .args in
-    passed-none (a .self) (a .s .now) (a .at) (search needs) (search needs) (search needs) (search needs)
+loop-holds c = let a = c .before .before .before .before .args in passed-none (a .self) (drop (a .at) (a .s .now)) (search needs)
 
 loop-again : tie.Need-loop-again Inv-loop μ-loop
 loop-again c =
     let a = c .before .before .before .before .before .before .before .before .args in
     let l = c .before .before .before .loop in
     let made = c .before .before .before .before .chunks4 .ensures in
-    passed-more (a .self) (l .h) (a .s .now) (a .at) (l .i) (l .inv) (search needs) (search needs)
+    passed-more (a .self) (l .h) (drop (a .at) (a .s .now)) (l .i) (l .inv) (search needs)
     (made (l .i) (search needs)
-    ∙ ap (λ (t : ℕ). chunkValue (from (a .self .cv) (l .i)) (counter t (l .i)) (drop (a .at + 1024 * l .i) (a .s .now))) (c .before .before .before .before .before .counter .ensures))
+    ∙ ap₂ (λ (t : ℕ) (x : List ℕ). chunkValue (from (a .self .cv) (l .i)) (counter t (l .i)) x) (c .before .before .before .before .before .counter .ensures) (sym (drop-drop (1024 * l .i) (a .at) (a .s .now))))
     (c .chunk-done .ensures)
 
 returns : tie.Need-returns Inv-loop μ-loop
+unfolding chunksDone
 returns c =
     let l = c .before .loop in
     let all : l .i ≡ 4 = omega arith in
