@@ -19,6 +19,9 @@ pub const PROGRAM: &str = "program";
 pub const SHORT_CONSTANTS: &str = "constants of 4 bytes";
 pub const LONG_CONSTANTS: &str = "constants of 8 bytes";
 pub const TEXTS: &str = "names of 250 bytes";
+pub const TWO_BYTE_TEXTS: &str = "names of two-byte letters";
+pub const THREE_BYTE_TEXTS: &str = "names of three-byte letters";
+pub const MIXED_TEXTS: &str = "names of mixed letters";
 
 const FUNCTIONS: usize = 2;
 const BYTECODE: usize = 96;
@@ -205,15 +208,29 @@ fn long_constants(units: usize, more: usize) -> Container {
     filled(pool(16 * units, |i| ConstEntry::i64(i as i64)), None, more)
 }
 
-/// A variable with names of 250 bytes for each unit: nearly all is text.
-fn texts(units: usize, more: usize) -> Container {
-    let named = |i: usize| VarNameEntry {
-        name: format!("{i:0250}"),
-        type_name: "T".repeat(250),
-        ..variable(i)
-    };
-    let debug = DebugSection { var_names: (0..units).map(named).collect(), ..DebugSection::default() };
+/// A variable for each unit, with these names.
+fn named(units: usize, more: usize, name: fn(usize) -> String, type_name: String) -> Container {
+    let entry = |i: usize| VarNameEntry { name: name(i), type_name: type_name.clone(), ..variable(i) };
+    let debug = DebugSection { var_names: (0..units).map(entry).collect(), ..DebugSection::default() };
     filled(ConstantPool::default(), Some(debug), more)
+}
+
+/// Names of 250 bytes: nearly all is text.
+fn texts(units: usize, more: usize) -> Container {
+    named(units, more, |i| format!("{i:0250}"), "T".repeat(250))
+}
+
+/// The same of letters that have two or three bytes each, and of words in which some letters have two.
+fn two_byte_texts(units: usize, more: usize) -> Container {
+    named(units, more, |_| "\u{3bb}".repeat(125), "\u{3c0}".repeat(125))
+}
+
+fn three_byte_texts(units: usize, more: usize) -> Container {
+    named(units, more, |_| "\u{6cb9}".repeat(83), "\u{6a04}".repeat(83))
+}
+
+fn mixed_texts(units: usize, more: usize) -> Container {
+    named(units, more, |_| "Gr\u{f6}\u{df}e_des_Beh\u{e4}lters_".repeat(10), "\u{d6}lm\u{fc}hle_".repeat(22))
 }
 
 fn written(container: &Container) -> Vec<u8> {
@@ -233,12 +250,15 @@ fn fitted(length: usize, make: fn(usize, usize) -> Container) -> Vec<u8> {
 }
 
 /// The shapes at a length, hashed as the writer hashes them.
-pub fn hashed(length: usize) -> [File; 4] {
+pub fn hashed(length: usize) -> [File; 7] {
     [
         File { shape: PROGRAM, bytes: fitted(length, program) },
         File { shape: SHORT_CONSTANTS, bytes: fitted(length, short_constants) },
         File { shape: LONG_CONSTANTS, bytes: fitted(length, long_constants) },
         File { shape: TEXTS, bytes: fitted(length, texts) },
+        File { shape: TWO_BYTE_TEXTS, bytes: fitted(length, two_byte_texts) },
+        File { shape: THREE_BYTE_TEXTS, bytes: fitted(length, three_byte_texts) },
+        File { shape: MIXED_TEXTS, bytes: fitted(length, mixed_texts) },
     ]
 }
 
