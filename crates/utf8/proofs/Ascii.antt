@@ -11,7 +11,7 @@ use lib.Dec.{T, eqb, leb→le}
 use lib.ListN.{length, drop, getD, replicate, length-drop, length-replicate}
 use lib.Seq.{drop-drop, getD-drop}
 use borrow.Author.Tests.{le-leb, lt-leb, eqb-true, eqb-false, eq-eqb, ne-eqb}
-use Rattle.utf8.specs.Utf8.{Range, _to_, within, starts, goodLength}
+use Rattle.utf8.specs.Utf8.{Range, _to_, within, starts, goodLength, Reached}
 use Rattle.utf8.proofs.Table.{left, right, lead}
 use Rattle.utf8.proofs.Longest.{good-more}
 
@@ -77,10 +77,6 @@ run (suc n) (b ∷ x) t =
     let e = lead (0x00 to 0x7F ∷ []) b x (List·Memᴰ·head refl) (omega arith, leb→le b 0x7F (search right)) in
     let g = good-more (b ∷ x) 0 e in
     (omega (arith, h .0), omega (arith, h .1))
-
--- from the place `at` the place `i` is reached: what lies between adds its length to the good length of the rest
-abbrev pub Reached : List ℕ → ℕ → ℕ → Type 0
-Reached s at i = (at ≤ i) × (i ≤ length s) × (i + goodLength (drop i s) ≡ at + goodLength (drop at s))
 
 pub reach : (n : ℕ) (s : List ℕ) (at i : ℕ) (a : Bool) → Reached s at i → a ≡ starts (ascii n) (drop i s) → a ≡ true → Reached s at (i + n)
 reach n s at i a h e t =

@@ -1,3 +1,4 @@
 pub mod Table
 pub mod Longest
 pub mod Ascii
+pub mod Alike

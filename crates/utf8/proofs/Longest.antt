@@ -10,7 +10,7 @@ use lib.Dec.{T, leb→le}
 use lib.ListN.{length, take, drop, take-append-drop, length-drop, length-append}
 use lib.Seq.{take-length, take-add, drop-drop, drop-append-seam, length-take-le}
 use borrow.Author.Tests.{eqb-true, eq-eqb}
-use Rattle.utf8.specs.Utf8.{Range, within, starts, firstOf, wellFormed, sequenceAt, onward, goodAfter, goodLength, utf8}
+use Rattle.utf8.specs.Utf8.{Range, within, starts, firstOf, wellFormed, sequenceAt, onward, goodAfter, goodLength, Reached, utf8}
 use Rattle.utf8.specs.Laws.{Whole, none, more, LongestGoodStart, Laws}
 use Rattle.utf8.proofs.Table.{left, right, lead}
 
@@ -67,17 +67,17 @@ good-more (b ∷ s) k e =
     let g = good-after k s (omega arith) in
     rw e (omega arith)
 
--- `i` bytes of the text are passed: the good length is `i` and that of the rest
-abbrev pub Passed : List ℕ → ℕ → Type 0
-Passed s i = (i ≤ length s) × (i + goodLength (drop i s) ≡ goodLength s)
+-- places reached one behind the other, and by one more sequence
+pub reached-then : (s : List ℕ) (at i j : ℕ) → Reached s at i → Reached s i j → Reached s at j
+reached-then s at i j h k = (omega arith, omega arith, omega arith)
 
-pub turn : (s : List ℕ) (i n : ℕ) → Passed s i → n ≡ sequenceAt (drop i s) → (n ≡ 0 → ⊥) → Passed s (i + n)
-turn s i zero h e z = absurd (z refl)
-turn s i (suc k) h e z =
+pub turn : (s : List ℕ) (at i n : ℕ) → Reached s at i → n ≡ sequenceAt (drop i s) → (n ≡ 0 → ⊥) → Reached s at (i + n)
+turn s at i zero h e z = absurd (z refl)
+turn s at i (suc k) h e z =
     let f = sequence-front (drop i s) k (sym e) .fits in
     let l = length-drop i s in
     let m : goodLength (drop i s) ≡ suc k + goodLength (drop (i + suc k) s) = rw (← drop-drop (suc k) i s) (good-more (drop i s) k (sym e)) in
-    (omega arith, omega arith)
+    (omega arith, omega arith, omega arith)
 
 -- the start of that length is whole
 whole : (k : ℕ) (s : List ℕ) → Whole (take (goodLength (drop k s)) (drop k s))

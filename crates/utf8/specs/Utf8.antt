@@ -1,9 +1,10 @@
 -- UTF-8 by Unicode's table of well-formed byte sequences (The Unicode Standard, table 3-7); document 01, "Leaves".
 use mathlib.Core.Bool.{Bool, true, false, _&&_, cond}
 use mathlib.Core.List.{List, [], _∷_}
-use Prim.Native.Nat.{ℕ, zero, suc}
+use mathlib.Core.Path.{_≡_}
+use Prim.Native.Nat.{ℕ, zero, suc, _+_, _≤_}
 use lib.Dec.{leb, eqb}
-use lib.ListN.{length}
+use lib.ListN.{length, drop}
 
 -- the bytes from `low` to `high`
 pub record Range : Type 0 where
@@ -60,6 +61,10 @@ goodAfter zero (b ∷ s) = onward (sequenceAt (b ∷ s)) (λ k. goodAfter k s)
 -- the length of the longest start of the text that consists of whole well-formed sequences
 unfoldable pub goodLength : List ℕ → ℕ
 goodLength s = goodAfter 0 s
+
+-- from the place `at` on whole sequences reach to the place i: they add their length to the good length of the rest
+abbrev pub Reached : List ℕ → ℕ → ℕ → Type 0
+Reached s at i = (at ≤ i) × (i ≤ length s) × (i + goodLength (drop i s) ≡ at + goodLength (drop at s))
 
 -- the text is well-formed UTF-8: that length is its own
 unfoldable pub utf8 : List ℕ → Bool

@@ -5,7 +5,7 @@ ghost use mathlib.Core.Path.{_≡_};
 ghost use Prim.Native.Nat.{_+_, _≤_, _<_};
 ghost use lib.ListN.{length, drop, replicate};
 ghost use Rattle.utf8.specs.Laws.{Laws};
-ghost use Rattle.utf8.specs.Utf8.{_to_, starts, sequenceAt, goodLength, utf8};
+ghost use Rattle.utf8.specs.Utf8.{_to_, starts, sequenceAt, goodLength, Reached, utf8};
 
 // Whether a byte from `low` to `high` stands at `at`.
 fn has(s: &[u8], at: usize, low: u8, high: u8) -> bool
@@ -93,16 +93,10 @@ fn sixteen(s: &[u8], at: usize) -> bool
     n == 16
 }
 
-// The place behind the ASCII from `at` on. Each byte of ASCII is a sequence of its own, so what is passed adds to the good length.
+// The place behind the ASCII from `at` on.
 fn past_ascii(s: &[u8], at: usize) -> usize
     requires { ⌜ at ≤ length (now s) ⌝ }
-    ensures { λ r.
-        ⌜
-        (at ≤ r)
-        × (r ≤ length (now (s .entry)))
-        × (r + goodLength (drop r (now (s .entry))) ≡ at + goodLength (drop at (now (s .entry))))
-        × (starts (0x00 to 0x7F ∷ []) (drop r (now (s .entry))) ≡ false)
-        ⌝ }
+    ensures { λ r. ⌜ Reached (now (s .entry)) at r × (starts (0x00 to 0x7F ∷ []) (drop r (now (s .entry))) ≡ false) ⌝ }
 {
     let mut i = at;
     while sixteen(s, i) {
@@ -114,7 +108,51 @@ fn past_ascii(s: &[u8], at: usize) -> usize
     i
 }
 
-// The length of the longest start of `s` that consists of whole well-formed sequences.
+// The place behind the sequences of two bytes from `at` on.
+fn past_two(s: &[u8], at: usize) -> usize
+    requires { ⌜ at ≤ length (now s) ⌝ }
+    ensures { λ r. ⌜ Reached (now (s .entry)) at r ⌝ }
+{
+    let mut i = at;
+    while has(s, i, 0xC2, 0xDF) {
+        let n = two(s, i);
+        if n == 0 {
+            return i;
+        }
+        i += n;
+    }
+    i
+}
+
+// The same of three bytes, with a first byte that most of them have.
+fn past_three(s: &[u8], at: usize) -> usize
+    requires { ⌜ at ≤ length (now s) ⌝ }
+    ensures { λ r. ⌜ Reached (now (s .entry)) at r ⌝ }
+{
+    let mut i = at;
+    while has(s, i, 0xE1, 0xEC) {
+        let n = three(s, i, 0x80, 0xBF);
+        if n == 0 {
+            return i;
+        }
+        i += n;
+    }
+    i
+}
+
+// The place behind the sequences from `at` on that are like the one before it, of `n` bytes.
+fn past_alike(s: &[u8], at: usize, n: usize) -> usize
+    requires { ⌜ at ≤ length (now s) ⌝ }
+    ensures { λ r. ⌜ Reached (now (s .entry)) at r ⌝ }
+{
+    if n == 2 {
+        return past_two(s, at);
+    }
+    past_three(s, at)
+}
+
+// The length of the longest start of `s` that consists of whole well-formed sequences. `sequence` decides; runs of sequences that are
+// alike are passed faster.
 pub fn good_length(s: &[u8]) -> usize
     ensures { λ r. ⌜ r ≡ goodLength (now (s .entry)) ⌝ }
 {
@@ -127,7 +165,7 @@ pub fn good_length(s: &[u8]) -> usize
             if n == 0 {
                 break;
             }
-            i += n;
+            i = past_alike(s, i + n, n);
         }
     }
     i

@@ -4,7 +4,8 @@ use Prim.Native.Nat.{_-_}
 use native.Mathlib.Omega.{arith}
 use lib.ListN.{length}
 use borrow.Author.Needs.{needs}
-use Rattle.utf8.proofs.Ascii.{Reached, reach}
+use Rattle.utf8.specs.Utf8.{Reached}
+use Rattle.utf8.proofs.Ascii.{reach}
 use Rattle.utf8.proofs.past_ascii.Statement.{statement}
 use Rattle.utf8.proofs.past_ascii.Tie as tie
 
@@ -41,7 +42,7 @@ loop2-less c = omega (arith, loop2-again c .1)
 returns : tie.Need-returns Inv-loop μ-loop Inv-loop2 μ-loop2
 returns c =
     let l = c .before .before .loop2 in
-    (l .inv .0, l .inv .1, l .inv .2, sym (c .before .has .ensures) ∙ c .if2 .left)
+    (l .inv, sym (c .before .has .ensures) ∙ c .if2 .left)
 
 pub past-ascii-spec : {M : Type 1} → statement M
 past-ascii-spec =
