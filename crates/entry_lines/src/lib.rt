@@ -12,7 +12,6 @@ ghost use Rattle.line_map.specs.Answers.{lineIn};
 ghost use Rattle.entry_lines.specs.Lines.{lineRoom, constantRoom, taskLine, programLine, fbTypeLine, fieldLine, arrayLine, userFbLine, constantLine, functionLine, lineLine};
 ghost use Rattle.entry_lines.specs.Answers.{withBytes};
 ghost use Rattle.entry_lines.specs.Laws.{Laws};
-use base::id_types::ConstantIndex;
 use code_section::FuncEntry;
 use constant_pool::ConstEntry;
 use constant_pool::Kept;
@@ -82,7 +81,7 @@ pub fn put_field(out: &mut [u8], at: usize, f: FieldEntry) -> usize
 }
 
 // An array, by its index, with the bytes of all its elements, or a dash if they are too many.
-pub fn put_array(out: &mut [u8], at: usize, index: u16, a: ArrayDescriptor) -> usize
+pub fn put_array(out: &mut [u8], at: usize, index: usize, a: ArrayDescriptor) -> usize
     requires { ⌜ at + lineRoom ≤ length (now out) ⌝ }
     ensures { λ r. ⌜ Wrote (now (out .entry)) at (arrayLine index (arrayIn a)) (now (out .exit)) r ⌝ }
 {
@@ -133,18 +132,12 @@ fn number_bytes(n: u64) -> [u8; 8]
 }
 
 // A constant, by its index, with its kept bytes; a string's are a part of the file.
-pub fn put_constant(
-    out: &mut [u8],
-    at: usize,
-    index: ConstantIndex,
-    c: ConstEntry,
-    file: &[u8],
-) -> usize
+pub fn put_constant(out: &mut [u8], at: usize, index: usize, c: ConstEntry, file: &[u8]) -> usize
     requires { ⌜ at + constantRoom (now file) ≤ length (now out) ⌝ }
-    ensures { λ r. ⌜ Wrote (now (out .entry)) at (constantLine (index .0) (withBytes (now (file .entry)) c)) (now (out .exit)) r ⌝ }
+    ensures { λ r. ⌜ Wrote (now (out .entry)) at (constantLine index (withBytes (now (file .entry)) c)) (now (out .exit)) r ⌝ }
 {
     let const_type = c.const_type;
-    let ns = [index.0 as u64, const_type.number() as u64];
+    let ns = [index as u64, const_type.number() as u64];
     let kept = c.kept;
     match kept {
         Kept::Number(n) => {

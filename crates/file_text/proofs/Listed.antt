@@ -10,8 +10,8 @@ use Rattle.format.proofs.Answers.{never, same-found, steps}
 use Rattle.blake3.specs.Blake3.{blake3}
 use Rattle.listing.specs.Lines.{refusedLine}
 use Rattle.listing.specs.Listing.{listingOf}
-use Rattle.type_lines.specs.Whole.{fileText}
-use Rattle.type_lines.proofs.Whole.{laws}
+use Rattle.table_lines.specs.Whole.{fileText}
+use Rattle.table_lines.proofs.Whole.{laws}
 use Rattle.file_text.specs.Texts.{fileListing}
 
 refused-by : (x : Got Loaded) {g : Fault} → refused g ≡ (x >>= λ l. found (recordOf l)) → refusedLine g ≡ listingOf x

@@ -9,9 +9,8 @@ use Rattle.blake3.specs.Blake3.{blake3}
 use Rattle.entry_lines.specs.Lines.{lineRoom}
 use Rattle.listing.specs.Lines.{containerLine}
 use Rattle.listing.specs.Listing.{listingOf}
-use Rattle.table_lines.specs.Tables.{tasksText, programsText, constantsText, functionsText}
-use Rattle.type_lines.specs.Tables.{fbTypesText, arraysText, userFbsText}
-use Rattle.type_lines.specs.Whole.{typesText, debugText}
+use Rattle.table_lines.specs.Tables.{tasksText, programsText, fbTypesText, arraysText, userFbsText, constantsText, functionsText}
+use Rattle.table_lines.specs.Whole.{typesText, debugText}
 
 -- the listing of any file, loaded or refused, BLAKE3 being the hash
 abbrev pub fileListing : List ℕ → List ℕ
@@ -21,7 +20,7 @@ fileListing f = listingOf (load blake3 f)
 abbrev pub room : List ℕ → ℕ
 room f = 2 * length f + lineRoom
 
--- On the way: the text of a file and a record up to each table, as `fileText` of `type_lines` has them
+-- On the way: the text of a file and a record up to each table, as `fileText` of `table_lines` has them
 
 abbrev pub toTasks : List ℕ → Container → List ℕ
 toTasks f r = containerLine (r .header) ++ tasksText f (r .header .directory .tasks)

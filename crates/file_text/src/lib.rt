@@ -8,7 +8,7 @@ ghost use Rattle.record.specs.Answers.{maybeTypes, containerIn};
 ghost use Rattle.entry_lines.specs.Lines.{lineRoom};
 ghost use Rattle.listing.specs.Lines.{containerLine, debugLine, endLine, refusedLine};
 ghost use Rattle.table_lines.specs.Answers.{Puts};
-ghost use Rattle.type_lines.specs.Whole.{typesText, debugText, fileText};
+ghost use Rattle.table_lines.specs.Whole.{typesText, debugText, fileText};
 ghost use Rattle.file_text.specs.Texts.{fileListing, room, toTasks, toPrograms, toTypes, toConstants, toFunctions, toDebug, toArrays, toUserFbs};
 use base::error::ContainerError;
 use base::section::Section;
@@ -17,22 +17,22 @@ use container::read_from;
 use debug_tables::DebugCounts;
 use debug_tables::MaybeDebug;
 use header::FileHeader;
+use line_steps::LINE_ROOM;
 use listing::put_container;
 use listing::put_debug;
 use listing::put_end;
 use listing::put_refused;
 use record::Container;
 use record::MaybeTypes;
-use table_lines::LINE_ROOM;
 use table_lines::Put;
+use table_lines::put_arrays;
 use table_lines::put_constants;
+use table_lines::put_fb_types;
 use table_lines::put_functions;
 use table_lines::put_lines;
 use table_lines::put_programs;
 use table_lines::put_tasks;
-use type_lines::put_arrays;
-use type_lines::put_fb_types;
-use type_lines::put_user_fbs;
+use table_lines::put_user_fbs;
 
 // Lines that stand for no entry of a table.
 

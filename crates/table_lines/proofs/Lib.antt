@@ -1,4 +1,5 @@
 pub mod Walking
+pub mod Falling
 pub mod Texts
-pub mod Counts
 pub mod Starts
+pub mod Whole

@@ -1,48 +1,51 @@
--- The text of each table, by where its walk starts; and the bound of an index of constants.
-use Prim.Native.Nat.{ℕ, suc, _-_, _≤_, _<_}
+-- The text of each table, by where its walk starts.
+use Prim.Native.Nat.{ℕ, zero, suc}
 use mathlib.Core.Path.{_≡_, refl, sym, ap, _∙_}
-use mathlib.Core.List.{List, [], _∷_, map}
+use mathlib.Core.Bool.{Bool, true, false, cond}
+use mathlib.Core.List.{List, [], _∷_, _++_, map}
 use native.Mathlib.Omega.{arith}
-use lib.ListN.{length, length-drop}
-use Rattle.reading.specs.Fault.{Fault}
-use Rattle.reading.specs.Reader.{u16, many}
+use lib.Dec.{eqb}
+use lib.ListN.{length, drop}
+use borrow.Author.Tests.{eqb-true}
+use Rattle.reading.specs.Reader.{Read, fault, got, Reader, many}
 use Rattle.reading.specs.Answer.{Got, refused, found, _>>=_, itemOf}
-use Rattle.reading.specs.Places.{Next, ends, faulty, entry, stepOf}
+use Rattle.reading.specs.Places.{Next, ends, faulty, entry, nextOf, stepOf, onNext, walked}
 use Rattle.reading.specs.declared.Table.{Table}
 use Rattle.reading.proofs.Reading.{both}
-use Rattle.reading.proofs.Width.{width-number}
-use Rattle.reading.proofs.Tables.{many-length}
 use Rattle.format.specs.Parts.{Place, cut, byPlace}
 use Rattle.format.specs.Tasks.{task, program, taskTable}
+use Rattle.format.specs.Types.{Field, field, FbType, fbType, array, userFb, TypeTables, typeTables}
 use Rattle.format.specs.Constants.{Constant, onConstant, constant, constants}
 use Rattle.format.specs.Code.{Code, function, codeOf}
-use Rattle.format.specs.Debug.{Line, line}
+use Rattle.format.specs.Debug.{line}
 use Rattle.format.specs.Record.{taskCounts}
-use Rattle.format.proofs.Answers.{same-found, steps, item-got}
+use Rattle.format.specs.Lookups.{readAt}
+use Rattle.format.proofs.Answers.{never, same-found, steps, item-got}
 use Rattle.format.proofs.PlacesHold.{constants-at}
-use Rattle.task_table.specs.Lookups.{taskEntries, programEntries, tasksAt, programsAt, nextTaskAt, nextProgramAt}
+use Rattle.base.specs.Section.{stepBy}
+use Rattle.base.proofs.FileLookups.{step-count}
+use Rattle.task_table.specs.Lookups.{taskEntries, programEntries, tasksAt, programsAt}
 use Rattle.task_table.proofs.Tables as task-table
-use Rattle.constant_pool.specs.Lookups.{poolAt, startAt, nextConstantAt}
-use Rattle.constant_pool.specs.Answers.{constIn, KeptEnds}
-use Rattle.constant_pool.specs.declared.ConstEntry.{ConstEntry}
+use Rattle.type_entries.specs.Starts.{fbTypesStart, arraysStart, userFbsStart, fieldsStart}
+use Rattle.type_section.specs.Lookups.{FbTypeEntry, withFields, fbTypeStep, fbTypesAt, arraysAt, userFbsAt}
+use Rattle.type_section.specs.Laws.{onFbType, fbTypesWalked}
+use Rattle.type_section.proofs.Walking as type-section
+use Rattle.constant_pool.specs.Lookups.{poolAt, startAt}
 use Rattle.constant_pool.proofs.Walks as constant-pool
-use Rattle.code_section.specs.Lookups.{directoryAt, nextFunctionAt}
+use Rattle.code_section.specs.Lookups.{directoryAt}
 use Rattle.code_section.proofs.Entries as code-section
-use Rattle.debug_section.specs.Lookups.{debugPart, startsAt}
+use Rattle.debug_section.specs.Lookups.{startsAt}
 use Rattle.debug_section.proofs.Parts.{tables-refused, tables-stand}
 use Rattle.debug_tables.specs.declared.DebugTables.{DebugTables}
-use Rattle.debug_walks.specs.Steps.{noDebugStep, debugStepBy, debugStepAt}
-use Rattle.base.proofs.FileLookups.{step-count}
+use Rattle.debug_walks.specs.Steps.{debugStepAt}
 use Rattle.debug_walks.proofs.Walks as debug-walks
-use Rattle.entry_lines.specs.Lines.{taskLine, programLine, constantLine, functionLine, lineLine}
-use Rattle.entry_lines.specs.Answers.{withBytes}
-use Rattle.entry_lines.proofs.Laws as entry-lines
-use Rattle.listing.specs.Listing.{each, indexedFrom}
-use Rattle.table_lines.specs.Walks.{walkText}
-use Rattle.table_lines.specs.Tables.{textOf, tasksText, programsText, constantsText, functionsText, linesText}
-use Rattle.table_lines.proofs.Walking.{Falls}
-use Rattle.table_lines.proofs.Texts.{each-indexed, driven-text, read-there, read-short, read-small, text-refused, start-text}
-use Rattle.table_lines.proofs.Counts.{many-takes, takes-constant}
+use Rattle.entry_lines.specs.Lines.{taskLine, programLine, fbTypeLine, fieldLine, arrayLine, userFbLine, constantLine, functionLine, lineLine}
+use Rattle.listing.specs.Listing.{each, indexedFrom, fbTypeLines}
+use Rattle.line_steps.specs.Steps.{lined}
+use Rattle.line_steps.specs.declared.Listed.the-variants as listed
+use Rattle.table_lines.specs.Walks.{onStep, walkText, entriesText, linesAt, nextFbTypeText}
+use Rattle.table_lines.specs.Tables.{textOf, tasksText, programsText, fbTypesText, arraysText, userFbsText, constantsText, functionsText, linesText}
+use Rattle.table_lines.proofs.Texts.{each-indexed, linesOf, driven-text, read-there, start-text}
 
 -- the directory of a code section that reads
 functions-read : (n : ℕ) (s : List ℕ) (c : Code) → itemOf (codeOf n s) ≡ found c → itemOf (many n function s) ≡ found (c .functions)
@@ -54,31 +57,51 @@ functions-read n s c e =
     ap itemOf (m .first) ∙ ap found z
 
 module _ (f : List ℕ) (p : Place) where
-  pub tasks-start : (t : Table) → found t ≡ tasksAt f p → tasksText f p ≡ walkText 0 (nextTaskAt f p) (λ i. taskLine) (t .count) t
+  pub tasks-start : textOf (tasksAt f p) (entriesText listed.Tasks f p) ≡ tasksText f p
   tasks-start =
       start-text f p taskTable task (λ t. taskEntries (taskCounts t)) (λ t. t .tasks) (λ i. taskLine) _ (λ t. each-indexed 0 taskLine (t .tasks))
       (λ t e h. let k = item-got (taskTable (cut f p)) t h in task-table.laws .tasks (cut f p) t (k .0) (k .1))
 
-  pub programs-start : (t : Table) → found t ≡ programsAt f p → programsText f p ≡ walkText 0 (nextProgramAt f p) (λ i. programLine) (t .count) t
+  pub programs-start : textOf (programsAt f p) (entriesText listed.Programs f p) ≡ programsText f p
   programs-start =
       start-text f p taskTable program (λ t. programEntries (taskCounts t)) (λ t. t .programs) (λ i. programLine) _ (λ t. each-indexed 0 programLine (t .programs))
       (λ t e h. let k = item-got (taskTable (cut f p)) t h in task-table.laws .programs (cut f p) t (k .0) (k .1))
 
-  pub functions-start : (n : ℕ) (t : Table) → found t ≡ directoryAt f p n → functionsText f p n ≡ walkText 0 (nextFunctionAt f p) (λ i. functionLine) (t .count) t
+  pub arrays-start : textOf (arraysAt f p) (entriesText listed.Arrays f p) ≡ arraysText f p
+  arrays-start =
+      start-text f p typeTables array arraysStart (λ t. t .arrays) arrayLine _ (λ t. refl) (λ t e h. type-section.laws .arrays (cut f p) t h)
+
+  pub user-fbs-start : textOf (userFbsAt f p) (entriesText listed.UserFbs f p) ≡ userFbsText f p
+  user-fbs-start =
+      start-text f p typeTables userFb userFbsStart (λ t. t .userFbs) (λ i. userFbLine) _ (λ t. each-indexed 0 userFbLine (t .userFbs))
+      (λ t e h. type-section.laws .userFbs (cut f p) t h)
+
+  pub functions-start : (n : ℕ) → textOf (directoryAt f p n) (entriesText listed.Functions f p) ≡ functionsText f p n
   functions-start n =
       start-text f p (codeOf n) function (λ c. record { at = 0; count = n }) (λ c. c .functions) (λ i. functionLine) _ (λ c. each-indexed 0 functionLine (c .functions))
       (λ c e h. code-section.laws .walk (cut f p) n ∙ functions-read n (cut f p) c h)
 
--- Constants: the code has a string by its place
+  pub lines-start : textOf (linesAt f p) (entriesText listed.Lines f p) ≡ linesText f p
+  lines-start = go (startsAt f p) refl
+    where
+      go : (x : Got DebugTables) → startsAt f p ≡ x → textOf (x >>= λ t. found (t .lines)) (entriesText listed.Lines f p) ≡ linesText f p
+      go (refused g) e = ap (λ x. textOf x (λ t. each lineLine (t .lines))) (tables-refused f p (sym e))
+      go (found u) e =
+          let k = tables-stand f p (sym e) in
+          let w = debug-walks.laws .walks f p (k .tables) (k .reads) in
+          let z : w .starts ≡ u = same-found (sym (w .started) ∙ e) in
+          let t = w .starts .lines in
+          ap (λ (v : DebugTables). entriesText listed.Lines f p (v .lines)) (sym z)
+          ∙ driven-text (debugStepAt f p line) (λ i. lineLine) 0 (t .count) t (k .tables .lines) (w .lines (t .count) (omega arith))
+          ∙ sym (each-indexed 0 lineLine (k .tables .lines))
+          ∙ ap (λ x. textOf x (λ t. each lineLine (t .lines))) (sym (k .reads))
 
-abbrev pub placedLine : List ℕ → ℕ → Constant Place → List ℕ
+-- Constants: the walk has a string by its place
+
+abbrev placedLine : List ℕ → ℕ → Constant Place → List ℕ
 placedLine f i c = constantLine i (onConstant (cut f) c)
 
 module _ (f : List ℕ) where
-  -- a constant that the code answers
-  pub constant-is : (i : ℕ) (c : ConstEntry) → KeptEnds (length f) (c .kept) → constantLine i (withBytes f c) ≡ placedLine f i (constIn c)
-  constant-is i c h = ap (constantLine i) (entry-lines.laws .constants f c h)
-
   placed-lines : (i : ℕ) (cs : List (Constant Place)) → indexedFrom i constantLine (map (onConstant (cut f)) cs) ≡ indexedFrom i (placedLine f) cs
   unfolding indexedFrom
   placed-lines i [] = refl
@@ -92,64 +115,74 @@ module _ (f : List ℕ) where
     by-place : constantsText f p ≡ textOf (poolAt f p) (indexedFrom 0 (placedLine f))
     by-place = ap (λ (x : Got (List (Constant (List ℕ)))). textOf x (indexedFrom 0 constantLine)) (constants-at f p) ∙ text-placed (poolAt f p)
 
-    pub constants-start : (t : Table) → found t ≡ startAt f p → constantsText f p ≡ walkText 0 (nextConstantAt f p) (placedLine f) (t .count) t
-    constants-start t e =
-        by-place
-        ∙ start-text f p (constants (byPlace p)) (constant (byPlace p)) (λ cs. record { at = 2; count = length cs }) (λ cs. cs) (placedLine f) (indexedFrom 0 (placedLine f)) (λ cs. refl)
+    pub constants-start : textOf (startAt f p) (entriesText listed.Constants f p) ≡ constantsText f p
+    constants-start =
+        start-text f p (constants (byPlace p)) (constant (byPlace p)) (λ cs. record { at = 2; count = length cs }) (λ cs. cs) (placedLine f) (indexedFrom 0 (placedLine f)) (λ cs. refl)
         (λ cs e h. constant-pool.laws .walk f p (record { at = 2; count = length cs }) (ap (λ x. x >>= λ ds. found (record { at = 2; count = length ds })) e) .gives ∙ e)
-        t
-        e
+        ∙ sym by-place
 
-    pub constants-none : {g : Fault} → refused g ≡ startAt f p → constantsText f p ≡ []
-    constants-none e = by-place ∙ text-refused (poolAt f p) _ (indexedFrom 0 (placedLine f)) e
+-- FB types
 
-    -- an index of 16 bits does for them
-    few : (s : List ℕ) (cs : List (Constant Place)) → length s ≤ 65536 → itemOf (constants (byPlace p) s) ≡ found cs → length cs < 65536
-    unfolding constants
-    few s cs h e =
-        let g = item-got (constants (byPlace p) s) cs e in
-        let k = both (u16 s) (g .1) in
-        let w = width-number 2 .takes s (k .item) (k .middle) (k .first) in
-        let n = many-length (constant (byPlace p)) (k .item) (k .middle) cs (g .0) (k .second) in
-        let m = many-takes (constant (byPlace p)) (takes-constant (byPlace p)) (k .item) (k .middle) cs (g .0) (k .second) in
-        omega (arith, w .1, ap length (w .0), length-drop 2 s)
+module _ {A : Type 0} (r : Reader A) (s : List ℕ) where
+  ends-of : (t : Table) → stepOf r s t ≡ ends → t .count ≡ 0
+  unfolding stepOf
+  ends-of t e = go (eqb (t .count) 0) refl (r (drop (t .at) s)) e
+    where
+      go : (z : Bool) → eqb (t .count) 0 ≡ z → (x : Read A) → cond z ends (nextOf s t x) ≡ ends → t .count ≡ 0
+      go true h x e = eqb-true (t .count) 0 h
+      go false h (fault f) e = absurd (let z : _≡_ {A = ℕ} 0 1 = cc in omega arith)
+      go false h (got a rest) e = absurd (let z : _≡_ {A = ℕ} 0 1 = cc in omega arith)
 
-    pub record Bounds (t : Table) : Type 0 where
-      pub file : length f ≤ 65536
-      pub count : t .count < 65536
+  -- a walk over a table gives as many entries as the table has
+  walked-length : (n : ℕ) (t : Table) (xs : List A) → t .count ≡ n → walked n r s t ≡ found xs → length xs ≡ n
+  walked-length zero t xs c e = let z : [] ≡ xs = same-found e in ap length (sym z)
+  walked-length (suc n) t xs c e = go (walked-length n) (stepOf r s t) refl e
+    where
+      go : ((u : Table) (ys : List A) → u .count ≡ n → walked n r s u ≡ found ys → length ys ≡ n) → (x : Next A) → stepOf r s t ≡ x → onNext x (walked n r s) ≡ found xs
+          → length xs ≡ suc n
+      go rec ends h e = absurd (omega (arith, ends-of t h))
+      go rec (faulty f) h e = never e
+      go rec (entry a u) h e =
+          let k = steps (walked n r s u) e in
+          let z : a ∷ k .item ≡ xs = same-found (k .second) in
+          ap length (sym z) ∙ ap suc (rec u (k .item) (omega (arith, step-count r s t h)) (k .first))
 
-    pub constants-bounds : (t : Table) → found t ≡ startAt f p → Bounds t
-    constants-bounds t e =
-        let k = steps (poolAt f p) (sym e) in
-        let r = constants (byPlace p) in
-        let z : record { at = 2; count = length (k .item) } ≡ t = same-found (k .second) in
-        let n = few (cut f p) (k .item) (read-small f p r (k .item) (k .first)) (read-there f p r (k .item) (k .first) .item) in
-        record { file = read-short f p r (k .item) (k .first); count = omega (arith, ap (λ (v : Table). v .count) z) }
+-- an FB type's line and its fields', by the steps over its fields
+abbrev fbTypeBy : (Table → Next Field) → FbTypeEntry → List ℕ
+fbTypeBy step b = fbTypeLine (b .head) ++ linesOf 0 step (λ j. fieldLine) (b .fields .count) (b .fields)
 
--- Lines of the debug section
+-- the walk over the FB types, by the steps over both
+abbrev fbTypesBy : (Table → Next FbTypeEntry) → (Table → Next Field) → ℕ → ℕ → Table → List ℕ
+fbTypesBy step fields i n t = linesOf i step (λ j. fbTypeBy fields) n t
+
+fb-types-text : (s : List ℕ) (i n : ℕ) (t : Table) (bs : List FbType) → fbTypesWalked n s t ≡ found bs → fbTypesBy (fbTypeStep s) (stepOf field s) i n t ≡ each fbTypeLines bs
+unfolding walkText each
+fb-types-text s i zero t bs e = let z : [] ≡ bs = same-found e in rw (← z)
+fb-types-text s i (suc n) t bs e = go (fb-types-text s (suc i) n) (stepOf fbType s t) e
+  where
+    go : ((u : Table) (cs : List FbType) → fbTypesWalked n s u ≡ found cs → fbTypesBy (fbTypeStep s) (stepOf field s) (suc i) n u ≡ each fbTypeLines cs) → (x : Next FbType)
+        → onFbType s (withFields t x) (fbTypesWalked n s) ≡ found bs
+        → onStep (lined (withFields t x) (fbTypeBy (stepOf field s))) (λ l u. l ++ fbTypesBy (fbTypeStep s) (stepOf field s) (suc i) n u) ≡ each fbTypeLines bs
+    go rec ends e = let z : [] ≡ bs = same-found e in rw (← z)
+    go rec (faulty f) e = never e
+    go rec (entry b u) e =
+        let fields = fieldsStart (t .at) b in
+        let k = steps (walked (fields .count) field s fields) e in
+        let m = steps (fbTypesWalked n s u) (k .second) in
+        let z : record { id = b .id; fields = k .item } ∷ m .item ≡ bs = same-found (m .second) in
+        let l = walked-length field s (fields .count) fields (k .item) refl (k .first) in
+        let w = driven-text (stepOf field s) (λ j. fieldLine) 0 (fields .count) fields (k .item) (k .first) ∙ sym (each-indexed 0 fieldLine (k .item)) in
+        rw (← z, rec u (m .item) (m .first), w, l)
 
 module _ (f : List ℕ) (p : Place) where
-  pub lines-start : (u : DebugTables) → found u ≡ startsAt f p → linesText f p ≡ walkText 0 (debugStepAt f p line) (λ i. lineLine) (u .lines .count) (u .lines)
-  lines-start u e =
-      let k = tables-stand f p e in
-      let w = debug-walks.laws .walks f p (k .tables) (k .reads) in
-      let z : w .starts ≡ u = same-found (sym (w .started) ∙ sym e) in
-      ap (λ x. textOf x (λ t. each lineLine (t .lines))) (k .reads)
-      ∙ each-indexed 0 lineLine (k .tables .lines)
-      ∙ sym (driven-text (debugStepAt f p line) (λ i. lineLine) 0 (w .starts .lines .count) (w .starts .lines) (k .tables .lines) (w .lines (w .starts .lines .count) (omega arith)))
-      ∙ ap (λ (v : DebugTables). walkText 0 (debugStepAt f p line) (λ i. lineLine) (v .lines .count) (v .lines)) z
-
-  pub lines-none : {g : Fault} → refused g ≡ startsAt f p → linesText f p ≡ []
-  lines-none e = ap (λ x. textOf x (λ t. each lineLine (t .lines))) (sym (tables-refused f p e))
-
-  pub lines-fall : Falls (debugStepAt f p line)
-  lines-fall t u a e = go (debugPart f p) e
+  pub fb-types-start : textOf (fbTypesAt f p) (λ t. walkText 0 (nextFbTypeText f p) (t .count) t) ≡ fbTypesText f p
+  fb-types-start = go (readAt f p typeTables) refl
     where
-      through : (x : Next Line) → noDebugStep x ≡ entry a u → x ≡ entry a u
-      through ends e = absurd (let z : _≡_ {A = ℕ} 0 1 = cc in omega arith)
-      through (faulty g) e = absurd (let z : _≡_ {A = ℕ} 0 1 = cc in omega arith)
-      through (entry b v) e = e
-
-      go : (x : Got Place) → debugStepBy f x line t ≡ entry a u → u .count ≡ t .count - 1
-      go (refused g) e = absurd (let z : _≡_ {A = ℕ} 0 1 = cc in omega arith)
-      go (found q) e = step-count line (cut f q) t (through (stepOf line (cut f q) t) e)
+      go : (x : Got TypeTables) → readAt f p typeTables ≡ x
+          → textOf (x >>= λ t. found (fbTypesStart t)) (λ t. walkText 0 (nextFbTypeText f p) (t .count) t) ≡ textOf x (λ t. each fbTypeLines (t .fbTypes))
+      go (refused g) e = refl
+      go (found a) e =
+          let h = read-there f p typeTables a e in
+          let t = fbTypesStart a in
+          ap (λ (x : Got Place). fbTypesBy (λ u. withFields u (stepBy f x fbType u)) (stepBy f x field) 0 (t .count) t) (h .part)
+          ∙ fb-types-text (cut f p) 0 (t .count) t (a .fbTypes) (type-section.laws .fbTypes (cut f p) a (h .item))

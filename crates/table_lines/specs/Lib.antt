@@ -1,3 +1,5 @@
 pub mod Walks
 pub mod Tables
 pub mod Answers
+pub mod Whole
+pub mod Laws

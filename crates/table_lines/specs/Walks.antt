@@ -2,15 +2,40 @@
 -- over those that stop before the table's end.
 use Prim.Native.Nat.{ℕ, zero, suc}
 use mathlib.Core.List.{List, [], _++_}
+use Rattle.reading.specs.Answer.{Got, found, _>>=_}
 use Rattle.reading.specs.Places.{Next, ends, faulty, entry}
 use Rattle.reading.specs.declared.Table.{Table}
+use Rattle.format.specs.Parts.{Place}
+use Rattle.type_section.specs.Lookups.{FbTypeEntry, nextFbTypeAt}
+use Rattle.debug_section.specs.Lookups.{startsAt}
+use Rattle.entry_lines.specs.Lines.{fbTypeLine}
+use Rattle.line_steps.specs.Steps.{lined, nextLineAt}
+use Rattle.line_steps.specs.declared.Listed.{Listed}
+use Rattle.line_steps.specs.declared.Listed.the-variants as listed
 
-abbrev pub onStep : {A : Type 0} → Next A → (A → Table → List ℕ) → List ℕ
+abbrev pub onStep : Next (List ℕ) → (List ℕ → Table → List ℕ) → List ℕ
 onStep ends go = []
 onStep (faulty f) go = []
-onStep (entry a u) go = go a u
+onStep (entry l u) go = go l u
 
--- the lines of at most `n` entries, with indices, of which the first is i
-unfoldable pub walkText : {A : Type 0} → ℕ → (Table → Next A) → (ℕ → A → List ℕ) → ℕ → Table → List ℕ
-walkText i step lineOf zero t = []
-walkText i step lineOf (suc n) t = onStep (step t) (λ a u. lineOf i a ++ walkText (suc i) step lineOf n u)
+-- the lines of at most `n` entries. A step is told its entry's index, and the first is i
+unfoldable pub walkText : ℕ → (ℕ → Table → Next (List ℕ)) → ℕ → Table → List ℕ
+walkText i step zero t = []
+walkText i step (suc n) t = onStep (step i t) (λ l u. l ++ walkText (suc i) step n u)
+
+-- Of the tables of a file, over any file and place of the section
+
+-- what a walk over a whole table gives
+abbrev pub entriesText : Listed → List ℕ → Place → Table → List ℕ
+entriesText l f p t = walkText 0 (nextLineAt l f p) (t .count) t
+
+-- where a walk over the lines starts
+abbrev pub linesAt : List ℕ → Place → Got Table
+linesAt f p = startsAt f p >>= λ t. found (t .lines)
+
+-- an FB type's line is followed by its fields'
+abbrev pub fbTypeText : List ℕ → Place → FbTypeEntry → List ℕ
+fbTypeText f p b = fbTypeLine (b .head) ++ entriesText listed.Fields f p (b .fields)
+
+abbrev pub nextFbTypeText : List ℕ → Place → ℕ → Table → Next (List ℕ)
+nextFbTypeText f p i t = lined (nextFbTypeAt f p t) (fbTypeText f p)

@@ -18,7 +18,6 @@ pub put-constant-spec : {M : Type 1} → statement M
 put-constant-spec =
     tie.close
     (tie.spec
-    (λ c. search needs)
     (λ c κs. search needs)
     (λ c. search needs)
     (λ c. search needs)

@@ -3,7 +3,7 @@ use native.Mathlib.Omega.{arith}
 use denote.Ref.{now}
 use Rattle.base.specs.Section.{placeIn}
 use Rattle.entry_lines.specs.Lines.{lineRoom}
-use Rattle.type_lines.specs.Tables.{arraysText}
+use Rattle.table_lines.specs.Tables.{arraysText}
 use Rattle.file_text.proofs.Joining.{none-for-first, then-second}
 use borrow.Author.Needs.{needs}
 use Rattle.file_text.proofs.put_to_arrays.Statement.{statement}

@@ -1,111 +1,21 @@
--- `table_lines::put_programs` meets its contract: the loop keeps `Left`, and each need is one of its laws.
-use Prim.Native.Nat.{ℕ}
-use mathlib.Core.Path.{sym, ap, _∙_}
-use native.Mathlib.Omega.{arith}
+-- `table_lines::put_programs` meets its contract: the text from where the walk starts is the table's.
 use denote.Ref.{now}
-use Rattle.text.proofs.Putting.{wrote-none}
-use Rattle.base.specs.Section.{placeIn, startFrom}
-use Rattle.format.specs.Tasks.{program, taskTable}
-use Rattle.format.specs.Lookups.{readAt}
-use Rattle.task_table.specs.Lookups.{nextProgramAt}
-use Rattle.task_table.specs.Answers.{programNextFrom}
-use Rattle.entry_lines.specs.Lines.{programLine}
-use Rattle.table_lines.specs.Tables.{programsText}
-use Rattle.table_lines.proofs.Walking.{Left, left-start, left-end, left-ends, left-stops, left-full, left-more}
-use Rattle.table_lines.proofs.Texts.{falls-in, text-refused}
+use Rattle.base.specs.Section.{placeIn}
 use Rattle.table_lines.proofs.Starts.{programs-start}
 use borrow.Author.Needs.{needs}
 use Rattle.table_lines.proofs.put_programs.Statement.{statement}
 use Rattle.table_lines.proofs.put_programs.Tie as tie
 
-abbrev Inv-loop : tie.InvT-loop
-Inv-loop out₀ at file section rest₀ next₀ out rest next =
-    (i : ℕ) × Left (nextProgramAt file (placeIn section)) (λ j. programLine) out₀ at (programsText file (placeIn section)) out i next rest
-
-abbrev μ-loop : tie.MeasureT-loop
-μ-loop out₀ at file section rest₀ next₀ out rest next = rest .count
-
-loop-holds : tie.Need-loop-holds Inv-loop μ-loop
-loop-holds c =
+returns : tie.Need-returns
+returns c =
     let a = c .before .before .before .before .before .before .before .args in
-    let v = c .before .first .given in
-    (0, left-start (omega arith) (programs-start (now (a .file)) (placeIn (a .section)) (v .0 .0) (sym (ap startFrom (v .1)) ∙ c .before .before .before .programs .ensures)))
-
-sub-if3 : tie.Need-sub-if3 Inv-loop μ-loop
-sub-if3 c = let b = c .before .before .loop .inv .1 .wrote .within in omega arith
-
-same-length : tie.Need-same-length Inv-loop μ-loop
-same-length c = c .before .before .before .loop .inv .1 .room
-
-returns-2 : tie.Need-returns-2 Inv-loop μ-loop
-returns-2 c = left-full (c .before .before .before .loop .inv .1) (omega arith)
-
-same-length-2 : tie.Need-same-length-2 Inv-loop μ-loop
-same-length-2 c = c .before .before .before .before .before .before .loop .inv .1 .room
-
-returns-3 : tie.Need-returns-3 Inv-loop μ-loop
-returns-3 c = left-ends (c .before .before .before .before .before .before .loop .inv .1) (sym (c .before .before .next-program .ensures) ∙ ap programNextFrom (c .enum-told2 .given .1))
-
-same-length-3 : tie.Need-same-length-3 Inv-loop μ-loop
-same-length-3 c = c .before .before .before .before .before .before .loop .inv .1 .room
-
-returns-4 : tie.Need-returns-4 Inv-loop μ-loop
-returns-4 c = left-stops (c .before .before .before .before .before .before .loop .inv .1) (sym (c .before .before .next-program .ensures) ∙ ap programNextFrom (c .enum-told3 .given .1))
-
-put-program-requires : tie.Need-put-program-requires Inv-loop μ-loop
-put-program-requires c κs = let b = c .before .before .before .before .before .before .before .before .loop .inv .1 .wrote .within in omega arith
-
-loop-less : tie.Need-loop-less Inv-loop μ-loop
-loop-less c =
-    let a = c .before .before .before .before .before .before .before .before .before .before .before .before .before .before .before .before .before .before .before .args in
-    let v = c .before .before .before .before .before .x .given in
-    let n = falls-in (now (a .file)) (placeIn (a .section)) program _ _ _ (sym (c .before .before .before .before .before .before .before .next-program .ensures) ∙ ap programNextFrom (v .1)) in
-    omega arith
-
-loop-again : tie.Need-loop-again Inv-loop μ-loop
-loop-again c =
-    let a = c .before .before .before .before .before .before .before .before .before .before .before .before .before .before .before .before .before .before .before .args in
-    let v = c .before .before .before .before .before .x .given in
-    let l = c .before .before .before .before .before .before .before .before .before .before .before .loop .inv .1 in
-    let e = sym (c .before .before .before .before .before .before .before .next-program .ensures) ∙ ap programNextFrom (v .1) in
-    (_, left-more l (falls-in (now (a .file)) (placeIn (a .section)) program) (omega arith) e (c .before .before .put-program .kept .0) (c .before .before .put-program .ensures))
-
-returns-5 : tie.Need-returns-5 Inv-loop μ-loop
-returns-5 c =
-    let a = c .before .before .before .before .before .before .args in
-    rw (text-refused (readAt (now (a .file)) (placeIn (a .section)) taskTable) _ _ (sym (ap startFrom (c .enum-told .given .1)) ∙ c .before .before .programs .ensures)) (wrote-none _ _ (omega arith))
-
-same-length-4 : tie.Need-same-length-4 Inv-loop μ-loop
-same-length-4 c = c .before .before .loop .inv .1 .room
-
-returns-6 : tie.Need-returns-6 Inv-loop μ-loop
-returns-6 c = left-end (c .before .before .loop .inv .1) (omega arith)
+    rw (← programs-start (now (a .file)) (placeIn (a .section)), ← c .before .before .before .before .programs .ensures) (c .before .before .put-from .ensures)
 
 pub put-programs-spec : {M : Type 1} → statement M
 put-programs-spec =
     tie.close
     (tie.spec
-    Inv-loop
-    μ-loop
-    (λ c. search needs)
+    (λ c κs. search needs)
     (λ c κs. search needs)
     (λ c. search needs)
-    (λ c. search needs)
-    loop-holds
-    sub-if3
-    same-length
-    returns-2
-    (λ c κs. search needs)
-    (λ c. search needs)
-    same-length-2
-    returns-3
-    (λ c. search needs)
-    same-length-3
-    returns-4
-    (λ c. search needs)
-    put-program-requires
-    loop-less
-    loop-again
-    returns-5
-    same-length-4
-    returns-6)
+    returns)

@@ -1,0 +1,233 @@
+// One step of a walk over a table of a file that puts the entry's line into a buffer that the caller lends, at the place `at`: a function for each
+// table, and one for any.
+ghost use Prim.Native.Nat.{_+_, _*_, _≤_};
+ghost use lib.ListN.{length};
+ghost use Rattle.base.specs.Section.{placeIn};
+ghost use Rattle.entry_lines.specs.Lines.{lineRoom};
+ghost use Rattle.line_steps.specs.Steps.{nextLineAt, roomOf};
+ghost use Rattle.line_steps.specs.Answers.{PutsNext};
+ghost use Rattle.line_steps.specs.declared.Listed.the-variants as listed;
+use base::section::Section;
+use code_section::FuncNext;
+use code_section::next_function;
+use constant_pool::ConstNext;
+use constant_pool::next_constant;
+use debug_walks::next_line;
+use entry_lines::put_array;
+use entry_lines::put_constant;
+use entry_lines::put_field;
+use entry_lines::put_function;
+use entry_lines::put_line_entry;
+use entry_lines::put_program;
+use entry_lines::put_task;
+use entry_lines::put_user_fb;
+use line_map::LineNext;
+use reading::Table;
+use task_table::ProgramNext;
+use task_table::TaskNext;
+use task_table::next_program;
+use task_table::next_task;
+use type_section::ArrayNext;
+use type_section::FieldNext;
+use type_section::UserFbNext;
+use type_section::next_array;
+use type_section::next_field;
+use type_section::next_user_fb;
+
+// Room for any line without kept bytes: the longest, a task's, has at most 194 bytes (`lineRoom` of `entry_lines/specs/Lines.antt`).
+pub const LINE_ROOM: usize = 200;
+
+// The tables that are listed, each by a line for an entry.
+pub enum Listed {
+    Tasks,
+    Programs,
+    Fields,
+    Arrays,
+    UserFbs,
+    Constants,
+    Functions,
+    Lines,
+}
+
+// What a step does: no room; no entry; or it puts a line, and answers the place behind it and the table of the other entries.
+pub enum PutNext {
+    NoRoom,
+    End,
+    At(usize, Table),
+}
+
+fn put_next_task(out: &mut [u8], at: usize, file: &[u8], section: Section, rest: Table) -> PutNext
+    requires { ⌜ at + lineRoom ≤ length (now out) ⌝ }
+    ensures { λ r. ⌜ PutsNext (now (out .entry)) at (nextLineAt listed.Tasks (now (file .entry)) (placeIn section) 0 rest) lineRoom (now (out .exit)) r ⌝ }
+{
+    match next_task(file, section, rest) {
+        TaskNext::End => PutNext::End,
+        TaskNext::Refused(_) => PutNext::End,
+        TaskNext::Entry(x, more) => {
+            let n = put_task(out, at, x);
+            PutNext::At(n, more)
+        }
+    }
+}
+
+fn put_next_program(
+    out: &mut [u8],
+    at: usize,
+    file: &[u8],
+    section: Section,
+    rest: Table,
+) -> PutNext
+    requires { ⌜ at + lineRoom ≤ length (now out) ⌝ }
+    ensures { λ r. ⌜ PutsNext (now (out .entry)) at (nextLineAt listed.Programs (now (file .entry)) (placeIn section) 0 rest) lineRoom (now (out .exit)) r ⌝ }
+{
+    match next_program(file, section, rest) {
+        ProgramNext::End => PutNext::End,
+        ProgramNext::Refused(_) => PutNext::End,
+        ProgramNext::Entry(x, more) => {
+            let n = put_program(out, at, x);
+            PutNext::At(n, more)
+        }
+    }
+}
+
+fn put_next_field(out: &mut [u8], at: usize, file: &[u8], section: Section, rest: Table) -> PutNext
+    requires { ⌜ at + lineRoom ≤ length (now out) ⌝ }
+    ensures { λ r. ⌜ PutsNext (now (out .entry)) at (nextLineAt listed.Fields (now (file .entry)) (placeIn section) 0 rest) lineRoom (now (out .exit)) r ⌝ }
+{
+    match next_field(file, section, rest) {
+        FieldNext::End => PutNext::End,
+        FieldNext::Refused(_) => PutNext::End,
+        FieldNext::Entry(x, more) => {
+            let n = put_field(out, at, x);
+            PutNext::At(n, more)
+        }
+    }
+}
+
+fn put_next_array(
+    out: &mut [u8],
+    at: usize,
+    file: &[u8],
+    section: Section,
+    index: usize,
+    rest: Table,
+) -> PutNext
+    requires { ⌜ at + lineRoom ≤ length (now out) ⌝ }
+    ensures { λ r. ⌜ PutsNext (now (out .entry)) at (nextLineAt listed.Arrays (now (file .entry)) (placeIn section) index rest) lineRoom (now (out .exit)) r ⌝ }
+{
+    match next_array(file, section, rest) {
+        ArrayNext::End => PutNext::End,
+        ArrayNext::Refused(_) => PutNext::End,
+        ArrayNext::Entry(x, more) => {
+            let n = put_array(out, at, index, x);
+            PutNext::At(n, more)
+        }
+    }
+}
+
+fn put_next_user_fb(
+    out: &mut [u8],
+    at: usize,
+    file: &[u8],
+    section: Section,
+    rest: Table,
+) -> PutNext
+    requires { ⌜ at + lineRoom ≤ length (now out) ⌝ }
+    ensures { λ r. ⌜ PutsNext (now (out .entry)) at (nextLineAt listed.UserFbs (now (file .entry)) (placeIn section) 0 rest) lineRoom (now (out .exit)) r ⌝ }
+{
+    match next_user_fb(file, section, rest) {
+        UserFbNext::End => PutNext::End,
+        UserFbNext::Refused(_) => PutNext::End,
+        UserFbNext::Entry(x, more) => {
+            let n = put_user_fb(out, at, x);
+            PutNext::At(n, more)
+        }
+    }
+}
+
+// A constant's line may have every byte of the file as its kept bytes. The test has no sum, which could wrap.
+fn put_next_constant(
+    out: &mut [u8],
+    at: usize,
+    file: &[u8],
+    section: Section,
+    index: usize,
+    rest: Table,
+) -> PutNext
+    requires { ⌜ at + lineRoom ≤ length (now out) ⌝ }
+    ensures { λ r. ⌜ PutsNext (now (out .entry)) at (nextLineAt listed.Constants (now (file .entry)) (placeIn section) index rest) (2 * length (now (file .entry)) + lineRoom) (now (out .exit)) r ⌝ }
+{
+    if (out.len() - at - LINE_ROOM) / 2 < file.len() {
+        return PutNext::NoRoom;
+    }
+    match next_constant(file, section, rest) {
+        ConstNext::End => PutNext::End,
+        ConstNext::Refused(_) => PutNext::End,
+        ConstNext::Entry(x, more) => {
+            let n = put_constant(out, at, index, x, file);
+            PutNext::At(n, more)
+        }
+    }
+}
+
+fn put_next_function(
+    out: &mut [u8],
+    at: usize,
+    file: &[u8],
+    section: Section,
+    rest: Table,
+) -> PutNext
+    requires { ⌜ at + lineRoom ≤ length (now out) ⌝ }
+    ensures { λ r. ⌜ PutsNext (now (out .entry)) at (nextLineAt listed.Functions (now (file .entry)) (placeIn section) 0 rest) lineRoom (now (out .exit)) r ⌝ }
+{
+    match next_function(file, section, rest) {
+        FuncNext::End => PutNext::End,
+        FuncNext::Refused(_) => PutNext::End,
+        FuncNext::Entry(x, more) => {
+            let n = put_function(out, at, x);
+            PutNext::At(n, more)
+        }
+    }
+}
+
+fn put_next_line(out: &mut [u8], at: usize, file: &[u8], section: Section, rest: Table) -> PutNext
+    requires { ⌜ at + lineRoom ≤ length (now out) ⌝ }
+    ensures { λ r. ⌜ PutsNext (now (out .entry)) at (nextLineAt listed.Lines (now (file .entry)) (placeIn section) 0 rest) lineRoom (now (out .exit)) r ⌝ }
+{
+    match next_line(file, section, rest) {
+        LineNext::End => PutNext::End,
+        LineNext::Refused(_) => PutNext::End,
+        LineNext::Entry(x, more) => {
+            let n = put_line_entry(out, at, x);
+            PutNext::At(n, more)
+        }
+    }
+}
+
+// The next line of any table, of the entry that has the index `index`.
+pub fn put_next(
+    out: &mut [u8],
+    at: usize,
+    file: &[u8],
+    section: Section,
+    listed: Listed,
+    index: usize,
+    rest: Table,
+) -> PutNext
+    requires { ⌜ at ≤ length (now out) ⌝ }
+    ensures { λ r. ⌜ PutsNext (now (out .entry)) at (nextLineAt listed (now (file .entry)) (placeIn section) index rest) (roomOf listed (now (file .entry))) (now (out .exit)) r ⌝ }
+{
+    if out.len() - at < LINE_ROOM {
+        return PutNext::NoRoom;
+    }
+    match listed {
+        Listed::Tasks => put_next_task(out, at, file, section, rest),
+        Listed::Programs => put_next_program(out, at, file, section, rest),
+        Listed::Fields => put_next_field(out, at, file, section, rest),
+        Listed::Arrays => put_next_array(out, at, file, section, index, rest),
+        Listed::UserFbs => put_next_user_fb(out, at, file, section, rest),
+        Listed::Constants => put_next_constant(out, at, file, section, index, rest),
+        Listed::Functions => put_next_function(out, at, file, section, rest),
+        Listed::Lines => put_next_line(out, at, file, section, rest),
+    }
+}

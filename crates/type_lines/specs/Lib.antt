@@ -1,3 +1,0 @@
-pub mod Tables
-pub mod Whole
-pub mod Laws
