@@ -6,6 +6,7 @@ use denote.Ref.{now}
 use Rattle.base.specs.Section.{placeIn}
 use Rattle.text.proofs.Putting.{wrote-none, wrote-then}
 use Rattle.type_section.specs.Answers.{fbTypeNextFrom}
+use Rattle.entry_lines.specs.Lines.{lineRoom}
 use Rattle.line_steps.specs.Steps.{lined}
 use Rattle.table_lines.specs.Walks.{fbTypeText, nextFbTypeText}
 use Rattle.table_lines.specs.Tables.{fbTypesText}
@@ -36,7 +37,7 @@ same-length : tie.Need-same-length Inv-loop μ-loop
 same-length c = c .before .before .before .loop .inv .1 .room
 
 returns-2 : tie.Need-returns-2 Inv-loop μ-loop
-returns-2 c = left-full (c .before .before .before .loop .inv .1) 200 (omega arith)
+returns-2 c = left-full (c .before .before .before .loop .inv .1) lineRoom (omega arith)
 
 same-length-2 : tie.Need-same-length-2 Inv-loop μ-loop
 same-length-2 c = c .before .before .before .before .before .before .loop .inv .1 .room
@@ -64,7 +65,7 @@ returns-5 c =
     let a = c .before .before .before .before .before .before .before .before .before .before .before .before .before .before .before .before .before .before .before .before .before .before .before .before .before .args in
     let e = ap (λ x. lined x (fbTypeText (now (a .file)) (placeIn (a .section)))) (sym (c .before .before .before .before .before .before .before .before .before .before .before .before .before .next-fb-type .ensures) ∙ ap fbTypeNextFrom (c .before .before .before .before .before .before .before .before .before .before .before .x .given .1)) in
     let n = subst (Puts _ _ _ _ _) (c .enum-told4 .given .1) (c .before .before .before .before .put-entries .ensures) in
-    left-part (c .before .before .before .before .before .before .before .before .before .before .before .before .before .before .before .before .before .loop .inv .1) _ _ 200 (omega arith) e (c .before .before .before .before .before .before .before .before .put-fb-type .kept .0) (c .before .before .before .before .before .before .before .before .put-fb-type .ensures) n
+    left-part (c .before .before .before .before .before .before .before .before .before .before .before .before .before .before .before .before .before .loop .inv .1) _ _ lineRoom (omega arith) e (c .before .before .before .before .before .before .before .before .put-fb-type .kept .0) (c .before .before .before .before .before .before .before .before .put-fb-type .ensures) n
 
 loop-less : tie.Need-loop-less Inv-loop μ-loop
 loop-less c =
