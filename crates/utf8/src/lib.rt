@@ -75,22 +75,22 @@ fn sequence(s: &[u8], at: usize) -> usize
     }
 }
 
-// Whether sixteen bytes of ASCII stand at `at`. All are counted, with no way out at the first other byte, so that the compiler tests
+// Whether eight bytes of ASCII stand at `at`. All are counted, with no way out at the first other byte, so that the compiler tests
 // them at once.
-fn sixteen(s: &[u8], at: usize) -> bool
+fn eight(s: &[u8], at: usize) -> bool
     requires { ⌜ at ≤ length (now s) ⌝ }
-    ensures { λ r. ⌜ r ≡ starts (replicate 16 (0x00 to 0x7F)) (drop at (now (s .entry))) ⌝ }
+    ensures { λ r. ⌜ r ≡ starts (replicate 8 (0x00 to 0x7F)) (drop at (now (s .entry))) ⌝ }
 {
-    if s.len() - at < 16 {
+    if s.len() - at < 8 {
         return false;
     }
     let mut n = 0usize;
-    for k in 0..16usize {
+    for k in 0..8usize {
         if s[at + k] <= 0x7F {
             n += 1;
         }
     }
-    n == 16
+    n == 8
 }
 
 // The place behind the ASCII from `at` on.
@@ -99,8 +99,8 @@ fn past_ascii(s: &[u8], at: usize) -> usize
     ensures { λ r. ⌜ Reached (now (s .entry)) at r × (starts (0x00 to 0x7F ∷ []) (drop r (now (s .entry))) ≡ false) ⌝ }
 {
     let mut i = at;
-    while sixteen(s, i) {
-        i += 16;
+    while eight(s, i) {
+        i += 8;
     }
     while has(s, i, 0x00, 0x7F) {
         i += 1;

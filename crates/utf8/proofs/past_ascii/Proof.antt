@@ -22,7 +22,7 @@ abbrev μ-loop2 : tie.MeasureT-loop2
 μ-loop2 s at i₀ i = length s - i
 
 loop-again : tie.Need-loop-again Inv-loop μ-loop Inv-loop2 μ-loop2
-loop-again c = reach 16 _ _ _ _ (c .before .before .loop .inv) (c .before .sixteen .ensures) (c .if1 .taken)
+loop-again c = reach 8 _ _ _ _ (c .before .before .loop .inv) (c .before .eight .ensures) (c .if1 .taken)
 
 add-i : tie.Need-add-i Inv-loop μ-loop Inv-loop2 μ-loop2
 add-i c = omega (arith, loop-again c .1)

@@ -1,18 +1,18 @@
--- `utf8::sixteen` meets its contract: `n` is the count of the bytes of ASCII among the first `k`. Assumes nothing.
+-- `utf8::eight` meets its contract: `n` is the count of the bytes of ASCII among the first `k`. Assumes nothing.
 use mathlib.Core.Logic.{⊎-elim}
 use mathlib.Core.Path.{_≡_}
 use Prim.Native.Nat.{_+_, _-_, _≤_}
 use lib.ListN.{length}
 use borrow.Author.Needs.{needs}
 use Rattle.utf8.proofs.Ascii.{near-end, Counted, counted-more, counted-other}
-use Rattle.utf8.proofs.sixteen.Statement.{statement}
-use Rattle.utf8.proofs.sixteen.Tie as tie
+use Rattle.utf8.proofs.eight.Statement.{statement}
+use Rattle.utf8.proofs.eight.Tie as tie
 
 abbrev Inv-loop : tie.InvT-loop
-Inv-loop s at n₀ k₀ n k = (at + 16 ≤ length s) × (k ≤ 16) × Counted s at k n
+Inv-loop s at n₀ k₀ n k = (at + 8 ≤ length s) × (k ≤ 8) × Counted s at k n
 
 abbrev μ-loop : tie.MeasureT-loop
-μ-loop s at n₀ k₀ n k = 16 - k
+μ-loop s at n₀ k₀ n k = 8 - k
 
 loop-again : tie.Need-loop-again Inv-loop μ-loop
 loop-again c =
@@ -28,11 +28,11 @@ loop-again c =
 returns-2 : tie.Need-returns-2 Inv-loop μ-loop
 returns-2 c =
     let l = c .before .loop in
-    let e : l .k ≡ 16 = search needs in
+    let e : l .k ≡ 8 = search needs in
     rw e at (l .inv .2 .1)
 
-pub sixteen-spec : {M : Type 1} → statement M
-sixteen-spec =
+pub eight-spec : {M : Type 1} → statement M
+eight-spec =
     tie.close
     (tie.spec Inv-loop μ-loop (λ c. search needs) (λ c. search near-end) (λ c. search needs)
     (λ c. search needs) (λ c. search needs) (λ c. search needs) (λ c. search needs) (λ c. search needs) loop-again returns-2)
