@@ -9,7 +9,8 @@ use lib.ListN.{length, drop, length-drop}
 use lib.Seq.{drop-drop}
 use borrow.Author.Tests.{lt-ltb, le-ltb}
 use Rattle.wide.specs.Lanes.{counter, chunkValue, from}
-use Rattle.hasher.specs.State.{chunkDone, chunksDone, atOnce, fed}
+use Rattle.hasher.specs.State.{chunkDone, fed}
+use Rattle.hasher.specs.Whole.{chunksDone, atOnce}
 use Rattle.hasher.specs.declared.Hasher.{Hasher}
 use Rattle.hasher.proofs.Stacking.{lt-or-le}
 use Rattle.hasher.proofs.Feeding.{Empty, fed-chunk}

@@ -7,7 +7,8 @@ use lib.ListN.{length, take, drop, length-drop}
 use lib.Seq.{sets, sets-eq, length-take-le, drop-drop}
 use Rattle.compression.specs.Word.{words}
 use Rattle.compression.specs.Chain.{chained}
-use Rattle.hasher.specs.State.{noBlock, advanced, chunksDone, fed}
+use Rattle.hasher.specs.State.{noBlock, advanced, fed}
+use Rattle.hasher.specs.Whole.{chunksDone}
 use Rattle.hasher.specs.declared.Hasher.{Hasher}
 use Rattle.hasher.proofs.Feeding.{holding, room-made, fed-room, fed-split, part-held, fed-chain}
 use Rattle.hasher.proofs.Four.{fed-chunks}

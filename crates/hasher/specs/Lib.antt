@@ -2,4 +2,5 @@ pub mod Tree
 pub mod Hash
 pub mod Stack
 pub mod State
+pub mod Whole
 pub mod Laws

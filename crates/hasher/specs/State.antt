@@ -1,14 +1,13 @@
 -- What feeding and finishing make of every state, also of one that no feeding made.
 use mathlib.Core.Bool.{cond}
 use mathlib.Core.List.{List, [], _∷_, _++_}
-use Prim.Native.Nat.{ℕ, zero, suc, _+_, _-_, _%_, _^_}
+use Prim.Native.Nat.{ℕ, _+_, _-_, _%_, _^_}
 use lib.Dec.{ltb}
-use lib.ListN.{drop, set, replicate}
+use lib.ListN.{set, replicate}
 use lib.Count.{trailingZeros}
 use Rattle.compression.specs.Word.{words}
 use Rattle.compression.specs.Compression.{iv, compress, chunkEnd}
 use Rattle.compression.specs.Chain.{startFlag}
-use Rattle.wide.specs.Lanes.{chunkValue}
 use Rattle.hasher.specs.Hash.{valueOf, rootOf}
 use Rattle.hasher.specs.Stack.{valuesOf, under, pushed}
 use Rattle.hasher.specs.declared.Node.{Node}
@@ -58,15 +57,6 @@ chunkDone h c =
       stack = pushed (h .stack) (trailingZeros 64 chunks) c;
       chunks = chunks;
     }
-
--- the first n chunks of s are taken in whole, by a state at the start of a chunk
-unfoldable pub chunksDone : ℕ → Hasher → List ℕ → Hasher
-chunksDone zero h s = h
-chunksDone (suc n) h s = chunksDone n (chunkDone h (chunkValue (h .cv) (h .chunks) s)) (drop 1024 s)
-
--- how many the code takes at once where so many bytes are left: four if more follows them, or one
-abbrev pub atOnce : ℕ → ℕ
-atOnce left = cond (ltb 4096 left) 4 1
 
 -- the block m ends the current chunk
 unfoldable pub nextChunk : Hasher → List ℕ → Hasher

@@ -10,6 +10,7 @@ ghost use Rattle.wide.specs.Lanes.{chunkValue};
 ghost use Rattle.hasher.specs.Hash as B;
 ghost use Rattle.hasher.specs.Stack as S;
 ghost use Rattle.hasher.specs.State as T;
+ghost use Rattle.hasher.specs.Whole as W;
 ghost use Rattle.hasher.specs.Laws.{Laws};
 use compression::iv;
 use compression::join;
@@ -192,7 +193,7 @@ fn chunk_value(cv: [u32; 8], s: &[u8], at: usize, t: u64) -> [u32; 8]
 
 // How many whole chunks are taken at once where `left` bytes are left: four if more follows them, or one.
 fn at_once(left: usize) -> usize
-    ensures { λ r. ⌜ r ≡ T.atOnce left ⌝ }
+    ensures { λ r. ⌜ r ≡ W.atOnce left ⌝ }
 {
     if FOUR_CHUNKS < left { 4 } else { 1 }
 }
@@ -278,7 +279,7 @@ impl Hasher {
     // Four whole chunks of `s` from `at` on, side by side.
     fn take_chunks(self, s: &[u8], at: usize) -> Hasher
         requires { ⌜ at + 4096 ≤ length (now s) ⌝ }
-        ensures { λ r. ⌜ r ≡ T.chunksDone 4 self (drop at (now (s .entry))) ⌝ }
+        ensures { λ r. ⌜ r ≡ W.chunksDone 4 self (drop at (now (s .entry))) ⌝ }
     {
         let cv = self.cv;
         let values = chunks4(cv, s, at, self.counter());
@@ -294,7 +295,7 @@ impl Hasher {
     // A whole chunk of `s` from `at` on.
     fn take_chunk(self, s: &[u8], at: usize) -> Hasher
         requires { ⌜ at + 1024 ≤ length (now s) ⌝ }
-        ensures { λ r. ⌜ r ≡ T.chunksDone 1 self (drop at (now (s .entry))) ⌝ }
+        ensures { λ r. ⌜ r ≡ W.chunksDone 1 self (drop at (now (s .entry))) ⌝ }
     {
         let cv = self.cv;
         let value = chunk_value(cv, s, at, self.counter());
@@ -304,7 +305,7 @@ impl Hasher {
     // Whole chunks of `s` from `at` on, as many as `at_once` says.
     fn take_whole(self, s: &[u8], at: usize) -> Hasher
         requires { ⌜ at + 1024 ≤ length (now s) ⌝ }
-        ensures { λ r. ⌜ r ≡ T.chunksDone (T.atOnce (length (now (s .entry)) - at)) self (drop at (now (s .entry))) ⌝ }
+        ensures { λ r. ⌜ r ≡ W.chunksDone (W.atOnce (length (now (s .entry)) - at)) self (drop at (now (s .entry))) ⌝ }
     {
         if FOUR_CHUNKS < s.len() - at {
             return self.take_chunks(s, at);

@@ -1,5 +1,5 @@
 -- `hasher::Hasher::take_chunk` meets its contract. Assumes nothing.
-use Rattle.hasher.specs.State.{chunksDone}
+use Rattle.hasher.specs.Whole.{chunksDone}
 use borrow.Author.Needs.{needs}
 use Rattle.hasher.proofs.Hasher.take_chunk.Statement.{statement}
 use Rattle.hasher.proofs.Hasher.take_chunk.Tie as tie

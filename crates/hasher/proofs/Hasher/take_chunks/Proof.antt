@@ -6,7 +6,7 @@ use native.Mathlib.Omega.{arith}
 use lib.ListN.{drop}
 use lib.Seq.{drop-drop}
 use Rattle.wide.specs.Lanes.{counter, chunkValue, from}
-use Rattle.hasher.specs.State.{chunksDone}
+use Rattle.hasher.specs.Whole.{chunksDone}
 use Rattle.hasher.proofs.Four.{Passed, passed-none, passed-more}
 use borrow.Author.Needs.{needs}
 use Rattle.hasher.proofs.Hasher.take_chunks.Statement.{statement}

@@ -8,7 +8,8 @@ use native.Mathlib.Omega.{arith}
 use lib.ListN.{length, take, drop, length-drop}
 use lib.Seq.{drop-drop}
 use borrow.Author.Tests.{eqb-true, ltb-true}
-use Rattle.hasher.specs.State.{chunksDone, atOnce, fed}
+use Rattle.hasher.specs.State.{fed}
+use Rattle.hasher.specs.Whole.{chunksDone, atOnce}
 use Rattle.hasher.specs.declared.Hasher.{Hasher}
 use Rattle.hasher.proofs.Feeding.{Empty, advanced-empty, fed-none}
 use Rattle.hasher.proofs.Four.{at-once-fits, chunks-empty}
