@@ -14,6 +14,8 @@ use Rattle.reading.specs.Answer.{refused, found}
 use Rattle.reading.proofs.Reading.{number-at, bytes-at, bytes-short}
 use Rattle.reading.proofs.Le.{Bytes, bytes-part}
 use Rattle.reading.proofs.Parts.{length-part}
+use Rattle.reading.proofs.Local.{local-give, local-check, local-bytes, local-number}
+use Rattle.reading.proofs.Left.{Stays, stays-local, stays-bind, stays-left}
 use Rattle.reading.proofs.Width.{Needs, needs-none, needs-bind, fixed-number}
 use Rattle.format.specs.Faults.{invalidConstantType}
 use Rattle.format.specs.Parts.{Keep, part}
@@ -22,6 +24,18 @@ use Rattle.format.proofs.Answers.{never}
 use Rattle.base.specs.Small.{constTypeOf}
 use Rattle.constant_pool.specs.Lookups.{keptOver}
 use Rattle.constant_pool.proofs.Numbers.{bytes-filled}
+
+-- what an entry leaves of the section is left of it, however strings are kept
+pub stays-constant : {T : Type 0} (whole : List ℕ) (keep : Keep T) → Stays whole (constant keep)
+unfolding constant
+stays-constant whole keep =
+    stays-bind whole (stays-local whole (local-number 1)) λ kind.
+    stays-bind whole (stays-local whole (local-number 1)) λ tag.
+    stays-bind whole (stays-local whole (local-number 2)) λ size.
+    stays-bind whole (stays-local whole (local-check (leb kind 7) (invalidConstantType kind))) λ u.
+    stays-bind whole (stays-local whole (local-check (sizeFits kind size) (invalidConstantType kind))) λ v.
+    stays-bind whole (stays-local whole (local-bytes size)) λ body.
+    stays-bind whole (stays-left whole) λ behind. stays-local whole (local-give (record { kind = kind; kept = keptOf keep kind body behind }))
 
 module _ {T : Type 0} (keep : Keep T) where
   pub constant-short : Needs 4 (constant keep)

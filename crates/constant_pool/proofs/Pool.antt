@@ -6,31 +6,38 @@ use native.Mathlib.Nat.{add-sub-cancel-left}
 use native.Mathlib.Omega.{arith}
 use lib.ListN.{length, take, drop, length-map}
 use Rattle.reading.specs.Fault.{Fault}
-use Rattle.reading.specs.Reader.{Read, fault, got}
+use Rattle.reading.specs.Reader.{Read}
 use Rattle.reading.specs.Answer.{Got, refused, found, _>>=_, itemOf}
+use Rattle.reading.specs.Places.{Next, stepOf}
 use Rattle.reading.specs.declared.Table.{Table}
 use Rattle.reading.proofs.Le.{Bytes}
 use Rattle.reading.proofs.Parts.{length-part}
 use Rattle.reading.proofs.Left.{left-all}
-use Rattle.reading.proofs.Tables.{holds-count, counted-few}
+use Rattle.reading.proofs.Tables.{counted-few}
+use Rattle.reading.proofs.From.{firstOf, from-lookup, from-first}
+use Rattle.format.specs.Faults.{invalidConstantIndex}
 use Rattle.format.specs.Parts.{Place, cut, byBytes, byPlace}
 use Rattle.format.specs.Constants.{Constant, onConstant, constants}
-use Rattle.format.specs.Lookups.{constantOf}
 use Rattle.format.proofs.Places.{placed-alone}
+use Rattle.format.proofs.Answers.{same-found, steps, refused-then, found-then, item-got}
 use Rattle.format.proofs.Keeping.{Alike, stops, gives, same-constants}
-use Rattle.base.specs.Section.{partIn, sectionPart, startFrom}
+use Rattle.base.specs.Section.{partIn, sectionPart}
 use Rattle.base.specs.declared.section.Part.{Part}
-use Rattle.base.specs.declared.section.StartAnswer.{StartAnswer}
-use Rattle.base.specs.declared.section.StartAnswer.the-variants as start
 use Rattle.base.proofs.Sections.{section-found}
-use Rattle.constant_pool.specs.Lookups.{placeOf, constantOver, poolCount, constantIn, poolAt}
-use Rattle.constant_pool.specs.Answers.{KeptEnds, ConstEnds, NextEnds, PoolReadable, TableAs}
+use Rattle.constant_pool.specs.Lookups.{placeOf, constantOver, poolCount, poolFrom, constantIn, poolAt, startAt}
+use Rattle.constant_pool.specs.Answers.{KeptEnds, ConstEnds, NextEnds}
 use Rattle.constant_pool.specs.declared.Kept.{Kept}
 use Rattle.constant_pool.specs.declared.Kept.the-variants as kept
 use Rattle.constant_pool.specs.declared.ConstAnswer.{ConstAnswer}
 use Rattle.constant_pool.specs.declared.ConstAnswer.the-variants as answer
 use Rattle.constant_pool.specs.declared.ConstNext.{ConstNext}
 use Rattle.constant_pool.specs.declared.ConstNext.the-variants as next
+use Rattle.constant_pool.proofs.Entries.{stays-constant}
+
+-- where the constants stand
+pub start-is : (base : ℕ) (s : List ℕ) → poolFrom base s 0 ≡ (itemOf (constants (byPlace (placeOf base s)) s) >>= λ cs. found (record { at = 2; count = length cs }))
+unfolding constants
+start-is base s = from-first (constantOver base s) s
 
 -- Strings by their bytes or by their places: the same refusals, and as many constants
 
@@ -43,37 +50,36 @@ module _ (s : List ℕ) where
   count-either : poolCount s ≡ (itemOf (constants (byPlace (placeOf 0 s)) s) >>= λ cs. found (length cs))
   count-either = count-on (same-constants s byBytes (byPlace (placeOf 0 s)) (cut s) (placed-alone s) s (left-all s))
 
-  pub count-refused : (f : Fault) → constants (byPlace (placeOf 0 s)) s ≡ fault f → refused f ≡ poolCount s
-  count-refused f e = sym (count-either ∙ rw e)
+  -- a section whose constants stand at `t`
+  pub count-refused : (f : Fault) → refused f ≡ poolFrom 0 s 0 → refused f ≡ poolCount s
+  count-refused f e = refused-then (itemOf (constants (byPlace (placeOf 0 s)) s)) (λ cs. record { at = 2; count = length cs }) (λ cs. found (length cs)) f (e ∙ start-is 0 s) ∙ sym count-either
 
--- a readable table has as many entries as its count says
-entries-count : (base : ℕ) (s : List ℕ) (t : Table) (h : PoolReadable base s t) → length (h .entries) ≡ t .count
-entries-count base s t h = sym (holds-count (constantOver base s) s t (h .entries) (h .holds))
+  pub count-found : (t : Table) → found t ≡ poolFrom 0 s 0 → found (t .count) ≡ poolCount s
+  count-found t e = found-then (itemOf (constants (byPlace (placeOf 0 s)) s)) (λ cs. record { at = 2; count = length cs }) (λ u. u .count) t (e ∙ start-is 0 s) ∙ sym count-either
 
--- of a list of bytes: the count has two
-pub count-few : (s : List ℕ) (t : Table) → Bytes s → PoolReadable 0 s t → t .count < 65536
-unfolding constants
-count-few s t b h = omega (arith, entries-count 0 s t h, counted-few (constantOver 0 s) s (h .entries) (h .rest) b (h .reads))
+  -- of a list of bytes: the count has two
+  pub count-few : (t : Table) → Bytes s → found t ≡ poolFrom 0 s 0 → t .count < 65536
+  unfolding constants
+  count-few t b e =
+      let k = steps (itemOf (constants (byPlace (placeOf 0 s)) s)) (sym (e ∙ start-is 0 s)) in
+      let g = item-got (constants (byPlace (placeOf 0 s)) s) (k .item) (k .first) in
+      omega (arith, ap (λ (u : Table). u .count) (same-found (k .second)), counted-few (constantOver 0 s) s (k .item) (g .0) b (g .1))
 
-pub count-found : (s : List ℕ) (t : Table) → PoolReadable 0 s t → found (t .count) ≡ poolCount s
-count-found s t h = sym (count-either s ∙ rw (h .reads) (ap found (entries-count 0 s t h)))
-
--- where a walk starts
-pub start-as : (base : ℕ) (s : List ℕ) (r : StartAnswer) → TableAs base s r
-    → startFrom r ≡ (itemOf (constants (byPlace (placeOf base s)) s) >>= λ cs. found (record { at = 2; count = length cs }))
-start-as base s (start.Refused e) h = sym (rw h)
-start-as base s (start.Start t) h =
-    let n = entries-count base s t h in
-    sym (rw (h .reads, n) (ap (λ (k : ℕ). found (record { at = k; count = t .count })) (sym (h .first))))
-
--- a lookup in the section: its own refusal first, then the entry
+-- a lookup in the section, by the first step from its index on
 module _ (base : ℕ) (s : List ℕ) (index : ℕ) where
-  pub find-refused : (f : Fault) → constants (byPlace (placeOf base s)) s ≡ fault f → refused f ≡ constantIn base s index
-  find-refused f e = sym (rw e)
+  abbrev firstIn : Table → Got (Constant Place)
+  firstIn t = firstOf (invalidConstantIndex index) (stepOf (constantOver base s) s t)
 
-  pub find-as : (cs : List (Constant Place)) (rest : List ℕ) (x : Got (Constant Place)) → constants (byPlace (placeOf base s)) s ≡ got cs rest → constantOf index cs ≡ x
-      → x ≡ constantIn base s index
-  find-as cs rest x e p = sym (rw e p)
+  find-as : (poolFrom base s index >>= firstIn) ≡ constantIn base s index
+  unfolding constants
+  find-as = from-lookup (constantOver base s) index s (stays-constant s (byPlace (placeOf base s))) (invalidConstantIndex index)
+
+  pub find-refused : (f : Fault) → refused f ≡ poolFrom base s index → refused f ≡ constantIn base s index
+  find-refused f e = ap (λ x. x >>= firstIn) e ∙ find-as
+
+  pub find-by : (t : Table) → found t ≡ poolFrom base s index → {v x : Next (Constant Place)} → v ≡ x → v ≡ stepOf (constantOver base s) s t
+      → firstOf (invalidConstantIndex index) x ≡ constantIn base s index
+  find-by t e d g = ap (firstOf (invalidConstantIndex index)) (sym d ∙ g) ∙ ap (λ x. x >>= firstIn) e ∙ find-as
 
 -- the section handed on as its part of the file
 module _ (f : List ℕ) (p : Place) (q : Part) (e : found (partIn q) ≡ sectionPart f p) (l : q .offset + q .size ≤ length f) where
@@ -94,6 +100,9 @@ module _ (f : List ℕ) (p : Place) (q : Part) (e : found (partIn q) ≡ section
 
   pub handed-pool : itemOf (constants (byPlace (placeOf (q .offset) handed)) handed) ≡ poolAt f p
   handed-pool = handed-as (λ s p. itemOf (constants (byPlace p) s)) ∙ sym (section-found f p (constants (byPlace p)) (partIn q) e .reads)
+
+  pub handed-start : poolFrom (q .offset) handed 0 ≡ startAt f p
+  handed-start = start-is (q .offset) handed ∙ ap (λ x. x >>= λ cs. found (record { at = 2; count = length cs })) handed-pool
 
 -- what ends at a place or before it ends before a later one
 kept-ends : (m n : ℕ) → m ≤ n → (k : Kept) → KeptEnds m k → KeptEnds n k

@@ -2,37 +2,23 @@
 use mathlib.Core.Path.{_≡_, refl, sym, ap, _∙_}
 use mathlib.Core.List.{List}
 use Prim.Native.Nat.{ℕ}
-use lib.Dec.{leb}
 use lib.ListN.{length}
-use Rattle.reading.specs.Reader.{left, u16}
+use Rattle.reading.specs.Reader.{u16}
 use Rattle.reading.specs.Answer.{Got, refused, found, itemOf}
-use Rattle.reading.specs.Places.{entry, walked}
+use Rattle.reading.specs.Places.{walked}
 use Rattle.reading.specs.declared.Table.{Table}
 use Rattle.reading.proofs.Reading.{both}
 use Rattle.reading.proofs.Width.{width-number}
 use Rattle.reading.proofs.Tables.{many-length}
-use Rattle.reading.proofs.Local.{local-give, local-check, local-bytes, local-number}
-use Rattle.reading.proofs.Left.{Stays, stays-local, stays-bind, stays-left, walk-is-table}
-use Rattle.format.specs.Faults.{invalidConstantType}
-use Rattle.format.specs.Parts.{Place, cut, Keep, byPlace}
-use Rattle.format.specs.Constants.{Constant, sizeFits, keptOf, constant, constants}
+use Rattle.reading.proofs.Left.{walk-is-table}
+use Rattle.format.specs.Parts.{Place, cut, byPlace}
+use Rattle.format.specs.Constants.{Constant, constant, constants}
 use Rattle.format.proofs.Answers.{never, same-found, steps, item-got}
 use Rattle.base.specs.Section.{stepBy, sectionPart}
 use Rattle.base.proofs.Sections.{section-refused, section-found}
 use Rattle.constant_pool.specs.Lookups.{poolAt, startAt}
 use Rattle.constant_pool.specs.Laws.{Walk, Laws}
-
--- what an entry leaves of the section is left of it, however strings are kept
-stays-constant : {T : Type 0} (whole : List ℕ) (keep : Keep T) → Stays whole (constant keep)
-unfolding constant
-stays-constant whole keep =
-    stays-bind whole (stays-local whole (local-number 1)) λ kind.
-    stays-bind whole (stays-local whole (local-number 1)) λ tag.
-    stays-bind whole (stays-local whole (local-number 2)) λ size.
-    stays-bind whole (stays-local whole (local-check (leb kind 7) (invalidConstantType kind))) λ u.
-    stays-bind whole (stays-local whole (local-check (sizeFits kind size) (invalidConstantType kind))) λ v.
-    stays-bind whole (stays-local whole (local-bytes size)) λ body.
-    stays-bind whole (stays-left whole) λ behind. stays-local whole (local-give (record { kind = kind; kept = keptOf keep kind body behind }))
+use Rattle.constant_pool.proofs.Entries.{stays-constant}
 
 module _ (p : Place) (s : List ℕ) (cs : List (Constant Place)) (t : Table) where
   walk-gives : itemOf (constants (byPlace p) s) ≡ found cs → record { at = 2; count = length cs } ≡ t → walked (t .count) (constant (byPlace p)) s t ≡ found cs

@@ -1,22 +1,16 @@
 -- What the code's answers mean, and what holds of the parts in them.
 use Prim.Native.Nat.{ℕ, _+_, _≤_}
 use mathlib.Core.List.{List}
-use mathlib.Core.Path.{_≡_}
 use lib.IntN.{ℤ}
 use Rattle.reading.specs.Numbers.{bytesLe}
-use Rattle.reading.specs.Reader.{fault, got}
 use Rattle.reading.specs.Answer.{Got, refused, found}
-use Rattle.reading.specs.Places.{Step, stops, item, Holds, Next, ends, faulty, entry}
-use Rattle.reading.specs.declared.Table.{Table}
-use Rattle.format.specs.Parts.{Place, byPlace}
+use Rattle.reading.specs.Places.{Step, stops, item, Next, ends, faulty, entry}
+use Rattle.format.specs.Parts.{Place}
 use Rattle.format.specs.Constants as format
-use Rattle.format.specs.Constants.{Constant, number, string, constants}
+use Rattle.format.specs.Constants.{Constant, number, string}
 use Rattle.base.specs.Error.{faultOf}
 use Rattle.base.specs.Small.{constTypeNumber, byteWidth}
 use Rattle.base.specs.Section.{partIn}
-use Rattle.base.specs.declared.section.StartAnswer.{StartAnswer}
-use Rattle.base.specs.declared.section.StartAnswer.the-variants as start
-use Rattle.constant_pool.specs.Lookups.{placeOf, constantOver}
 use Rattle.constant_pool.specs.declared.Kept.{Kept}
 use Rattle.constant_pool.specs.declared.Kept.the-variants as kept
 use Rattle.constant_pool.specs.declared.ConstEntry.{ConstEntry}
@@ -60,18 +54,6 @@ stepFrom (step.Entry c m) = item (constIn c) m
 abbrev pub StepEnds : ℕ → ConstStep → Type 0
 StepEnds most (step.Refused e) = Unit {0}
 StepEnds most (step.Entry c m) = KeptEnds most (c .kept)
-
--- the entries of the section `s`, behind the count
-pub record PoolReadable (base : ℕ) (s : List ℕ) (t : Table) : Type 0 where
-  pub first : t .at ≡ 2
-  pub entries : List (Constant Place)
-  pub rest : List ℕ
-  pub reads : constants (byPlace (placeOf base s)) s ≡ got entries rest
-  pub holds : Holds (constantOver base s) s t entries
-
-abbrev pub TableAs : ℕ → List ℕ → StartAnswer → Type 0
-TableAs base s (start.Refused e) = constants (byPlace (placeOf base s)) s ≡ fault (faultOf e)
-TableAs base s (start.Start t) = PoolReadable base s t
 
 abbrev pub countFrom : CountAnswer → Got ℕ
 countFrom (count.Refused e) = refused (faultOf e)

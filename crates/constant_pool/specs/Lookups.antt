@@ -8,6 +8,7 @@ use lib.ListN.{length}
 use Rattle.reading.specs.Reader.{Reader}
 use Rattle.reading.specs.Answer.{Got, refused, found, _>>=_, itemOf}
 use Rattle.reading.specs.Places.{Next}
+use Rattle.reading.specs.Tables.{tableFrom}
 use Rattle.reading.specs.declared.Table.{Table}
 use Rattle.format.specs.Faults.{invalidConstantType}
 use Rattle.format.specs.Parts.{Place, part, byBytes, byPlace}
@@ -31,6 +32,10 @@ constantOver base s = constant (byPlace (placeOf base s))
 -- what is kept of the `size` bytes at `at`
 abbrev pub keptOver : ℕ → List ℕ → ℕ → ℕ → ℕ → Kept Place
 keptOver base s kind at size = keptOf (byPlace (placeOf base s)) kind (part at size s) (length s - (at + size))
+
+-- the constants from the index `k` on, which all of the section must read for
+abbrev pub poolFrom : ℕ → List ℕ → ℕ → Got Table
+poolFrom base s k = itemOf (tableFrom (length s) k (constantOver base s) s)
 
 -- the constant at an index
 abbrev pub constantIn : ℕ → List ℕ → ℕ → Got (Constant Place)

@@ -4,13 +4,12 @@ ghost use mathlib.Core.Bool.{true};
 ghost use Prim.Native.Nat.{_+_, _^_, _≤_, _<_};
 ghost use lib.ListN.{length};
 ghost use Rattle.reading.specs.Numbers.{le, leAt};
-ghost use Rattle.reading.specs.Reader.{many};
-ghost use Rattle.reading.specs.Places.{Reads, Goes, stepOf};
+ghost use Rattle.reading.specs.Places.{Reads, stepOf};
 ghost use Rattle.format.specs.Constants.{sizeFits, signed};
 ghost use Rattle.base.specs.Small.{constTypeNumber};
-ghost use Rattle.base.specs.Section.{placeIn, partFrom, PartWithin, startFrom, bytesOr, wayFrom};
-ghost use Rattle.constant_pool.specs.Answers.{keptIn, KeptEnds, stepFrom, StepEnds, TableAs, countFrom, constFrom, ConstEnds, constNextFrom, NextEnds, keptFrom, u32From, u64From, i32From, i64From, widthFrom};
-ghost use Rattle.constant_pool.specs.Lookups.{constantOver, keptOver, poolCount, constantIn, constantAt, keptAt, numberAt, i32At, u32At, i64At, u64At, f32At, f64At, stringAt, charWidthAt, startAt, nextConstantAt};
+ghost use Rattle.base.specs.Section.{placeIn, partFrom, PartWithin, startFrom, bytesOr};
+ghost use Rattle.constant_pool.specs.Answers.{keptIn, KeptEnds, stepFrom, StepEnds, countFrom, constFrom, ConstEnds, constNextFrom, NextEnds, keptFrom, u32From, u64From, i32From, i64From, widthFrom};
+ghost use Rattle.constant_pool.specs.Lookups.{constantOver, keptOver, poolCount, poolFrom, constantIn, constantAt, keptAt, numberAt, i32At, u32At, i64At, u64At, f32At, f64At, stringAt, charWidthAt, startAt, nextConstantAt};
 ghost use Rattle.constant_pool.specs.Laws.{Laws};
 use base::char_width::CharWidth;
 use base::const_type::ConstType;
@@ -22,7 +21,6 @@ use base::section::Part;
 use base::section::PartAnswer;
 use base::section::Section;
 use base::section::StartAnswer;
-use base::section::Walk;
 use base::section::section_part;
 use reading::Table;
 use reading::u8_at;
@@ -173,74 +171,85 @@ fn read_entry(s: &[u8], base: usize, at: usize) -> ConstStep
     }
 }
 
-// A walk over the `n` entries from `at` on.
-fn skip(s: &[u8], base: usize, at: usize, n: usize) -> Walk
-    requires { ⌜ (at ≤ length (now s)) × (base + length (now s) < 2 ^ 64) ⌝ }
-    ensures { λ r. ⌜ Goes (many n (constantOver base (now (s .entry)))) (now (s .entry)) at (wayFrom r) ⌝ }
-{
-    let mut p = at;
-    let mut i = 0;
-    while i < n {
-        match read_entry(s, base, p) {
-            ConstStep::Refused(e) => {
-                return Walk::Refused(e);
-            }
-            ConstStep::Entry(_, m) => {
-                p = m;
-                i += 1;
-            }
-        }
-    }
-    Walk::At(p)
-}
-
-// The entries of the section `s`, all of them readable.
-fn table(s: &[u8], base: usize) -> StartAnswer
+// The entries of the section `s` from the index `k` on. All entries are read, and those from `k` on looked for on the way.
+fn table(s: &[u8], base: usize, k: usize) -> StartAnswer
     requires { ⌜ base + length (now s) < 2 ^ 64 ⌝ }
-    ensures { λ r. ⌜ TableAs base (now (s .entry)) r ⌝ }
+    ensures { λ r. ⌜ startFrom r ≡ poolFrom base (now (s .entry)) k ⌝ }
 {
     if s.len() < 2 {
         return StartAnswer::Refused(ContainerError::ShortInput);
     }
     let count = u16_at(s, 0) as usize;
-    match skip(s, base, 2, count) {
-        Walk::Refused(e) => StartAnswer::Refused(e),
-        Walk::At(_) => StartAnswer::Start(Table { at: 2, count }),
+    let mut t = Table { at: 2, count };
+    let mut p = 2;
+    let mut i = 0;
+    while i < count {
+        match read_entry(s, base, p) {
+            ConstStep::Refused(e) => {
+                return StartAnswer::Refused(e);
+            }
+            ConstStep::Entry(_, m) => {
+                p = m;
+                i += 1;
+                if i <= k {
+                    t = Table {
+                        at: p,
+                        count: count - i,
+                    };
+                }
+            }
+        }
     }
+    StartAnswer::Start(t)
 }
 
 // The section's reader: its refusal, or how many constants there are.
 pub fn read_from(s: &[u8]) -> CountAnswer
     ensures { λ r. ⌜ countFrom r ≡ poolCount (now (s .entry)) ⌝ }
 {
-    match table(s, 0) {
+    match table(s, 0, 0) {
         StartAnswer::Refused(e) => CountAnswer::Refused(e),
         StartAnswer::Start(t) => CountAnswer::Count(t.count as u16),
     }
 }
 
-// The constant at an index of the section `s`, which starts at `base` of the file.
+// The next constant of a walk over the section `s`, which starts at `base` of the file.
+fn next_in(s: &[u8], base: usize, t: Table) -> ConstNext
+    requires { ⌜ base + length (now s) < 2 ^ 64 ⌝ }
+    ensures { λ r. ⌜ (constNextFrom r ≡ stepOf (constantOver base (now (s .entry))) (now (s .entry)) t) × NextEnds (base + length (now (s .entry))) r ⌝ }
+{
+    let at = t.at;
+    let count = t.count;
+    if count == 0 {
+        return ConstNext::End;
+    }
+    if s.len() < at {
+        return ConstNext::Refused(ContainerError::ShortInput);
+    }
+    match read_entry(s, base, at) {
+        ConstStep::Refused(e) => ConstNext::Refused(e),
+        ConstStep::Entry(c, m) => ConstNext::Entry(
+            c,
+            Table {
+                at: m,
+                count: count - 1,
+            },
+        ),
+    }
+}
+
+// The constant at an index of the section `s`, which starts at `base` of the file: the first of those from the index on.
 fn find(s: &[u8], base: usize, index: ConstantIndex) -> ConstAnswer
     requires { ⌜ base + length (now s) < 2 ^ 64 ⌝ }
     ensures { λ r. ⌜ (constFrom r ≡ constantIn base (now (s .entry)) (index .0)) × ConstEnds (base + length (now (s .entry))) r ⌝ }
 {
-    match table(s, base) {
+    match table(s, base, index.0 as usize) {
         StartAnswer::Refused(e) => ConstAnswer::Refused(e),
-        StartAnswer::Start(t) => {
-            let at = t.at;
-            let count = t.count;
-            let k = index.0 as usize;
-            if k >= count {
-                return ConstAnswer::Refused(ContainerError::InvalidConstantIndex(index));
-            }
-            match skip(s, base, at, k) {
-                Walk::Refused(e) => ConstAnswer::Refused(e),
-                Walk::At(p) => match read_entry(s, base, p) {
-                    ConstStep::Refused(e) => ConstAnswer::Refused(e),
-                    ConstStep::Entry(c, _) => ConstAnswer::Entry(c),
-                },
-            }
-        }
+        StartAnswer::Start(t) => match next_in(s, base, t) {
+            ConstNext::End => ConstAnswer::Refused(ContainerError::InvalidConstantIndex(index)),
+            ConstNext::Refused(e) => ConstAnswer::Refused(e),
+            ConstNext::Entry(c, _) => ConstAnswer::Entry(c),
+        },
     }
 }
 
@@ -423,33 +432,8 @@ pub fn constants(file: &[u8], section: Section) -> StartAnswer
         PartAnswer::Part(p) => {
             let start = p.offset;
             let end = start + p.size;
-            table(&file[start..end], start)
+            table(&file[start..end], start, 0)
         }
-    }
-}
-
-// The next constant of a walk over the section `s`, which starts at `base` of the file.
-fn next_in(s: &[u8], base: usize, t: Table) -> ConstNext
-    requires { ⌜ base + length (now s) < 2 ^ 64 ⌝ }
-    ensures { λ r. ⌜ (constNextFrom r ≡ stepOf (constantOver base (now (s .entry))) (now (s .entry)) t) × NextEnds (base + length (now (s .entry))) r ⌝ }
-{
-    let at = t.at;
-    let count = t.count;
-    if count == 0 {
-        return ConstNext::End;
-    }
-    if s.len() < at {
-        return ConstNext::Refused(ContainerError::ShortInput);
-    }
-    match read_entry(s, base, at) {
-        ConstStep::Refused(e) => ConstNext::Refused(e),
-        ConstStep::Entry(c, m) => ConstNext::Entry(
-            c,
-            Table {
-                at: m,
-                count: count - 1,
-            },
-        ),
     }
 }
 

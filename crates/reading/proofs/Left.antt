@@ -14,7 +14,7 @@ use Rattle.reading.specs.Answer.{found, _>>=_, itemOf}
 use Rattle.reading.specs.Places.{leftOf, nextOf, stepOf, onNext, walked}
 use Rattle.reading.specs.declared.Table.{Table}
 use Rattle.reading.proofs.Reading.{both}
-use Rattle.reading.proofs.Local.{Taken, Local}
+use Rattle.reading.proofs.Local.{Taken, Local, local-give}
 
 pub record LeftOf (whole s : List ℕ) : Type 0 where
   pub behind : ℕ
@@ -74,6 +74,10 @@ stays-bind whole {r} hr hg =
 
 pub stays-left : (whole : List ℕ) → Stays whole left
 stays-left whole = record { leaves = λ s n t w e. let z : s ≡ t = cc in rw z at w }
+
+pub stays-many : {A : Type 0} (whole : List ℕ) (n : ℕ) {r : Reader A} → Stays whole r → Stays whole (many n r)
+stays-many whole zero h = stays-local whole (local-give [])
+stays-many whole (suc n) h = stays-bind whole h λ a. stays-bind whole (stays-many whole n h) λ xs. stays-local whole (local-give (a ∷ xs))
 
 -- a caller's walk over a table, step by step, gives what reading the table gives
 pub walk-is-table : {A : Type 0} (whole : List ℕ) (r : Reader A) → Stays whole r → (n : ℕ) (t : Table) → t .count ≡ n → walked n r whole t ≡ itemOf (many n r (drop (t .at) whole))

@@ -8,3 +8,4 @@ pub mod Tables
 pub mod Sizes
 pub mod Local
 pub mod Left
+pub mod From

@@ -3,3 +3,4 @@ pub mod Numbers
 pub mod Reader
 pub mod Answer
 pub mod Places
+pub mod Tables

@@ -27,7 +27,7 @@ use Rattle.base.proofs.FileLookups.{step-count}
 use Rattle.task_table.specs.Lookups.{taskEntries, programEntries, tasksAt, programsAt}
 use Rattle.task_table.proofs.Tables as task-table
 use Rattle.type_entries.specs.Starts.{fbTypesStart, arraysStart, userFbsStart, fieldsStart}
-use Rattle.type_section.specs.Lookups.{FbTypeEntry, withFields, fbTypeStep, fbTypesAt, arraysAt, userFbsAt}
+use Rattle.type_section.specs.Lookups.{FbTypeEntry, withFields, fbTypeStepOf, fbTypesAt, arraysAt, userFbsAt}
 use Rattle.type_section.specs.Laws.{onFbType, fbTypesWalked}
 use Rattle.type_section.proofs.Walking as type-section
 use Rattle.constant_pool.specs.Lookups.{poolAt, startAt}
@@ -155,14 +155,14 @@ fbTypeBy step b = fbTypeLine (b .head) ++ linesOf 0 step (λ j. fieldLine) (b .f
 abbrev fbTypesBy : (Table → Next FbTypeEntry) → (Table → Next Field) → ℕ → ℕ → Table → List ℕ
 fbTypesBy step fields i n t = linesOf i step (λ j. fbTypeBy fields) n t
 
-fb-types-text : (s : List ℕ) (i n : ℕ) (t : Table) (bs : List FbType) → fbTypesWalked n s t ≡ found bs → fbTypesBy (fbTypeStep s) (stepOf field s) i n t ≡ each fbTypeLines bs
+fb-types-text : (s : List ℕ) (i n : ℕ) (t : Table) (bs : List FbType) → fbTypesWalked n s t ≡ found bs → fbTypesBy (fbTypeStepOf s) (stepOf field s) i n t ≡ each fbTypeLines bs
 unfolding walkText each
 fb-types-text s i zero t bs e = let z : [] ≡ bs = same-found e in rw (← z)
 fb-types-text s i (suc n) t bs e = go (fb-types-text s (suc i) n) (stepOf fbType s t) e
   where
-    go : ((u : Table) (cs : List FbType) → fbTypesWalked n s u ≡ found cs → fbTypesBy (fbTypeStep s) (stepOf field s) (suc i) n u ≡ each fbTypeLines cs) → (x : Next FbType)
+    go : ((u : Table) (cs : List FbType) → fbTypesWalked n s u ≡ found cs → fbTypesBy (fbTypeStepOf s) (stepOf field s) (suc i) n u ≡ each fbTypeLines cs) → (x : Next FbType)
         → onFbType s (withFields t x) (fbTypesWalked n s) ≡ found bs
-        → onStep (lined (withFields t x) (fbTypeBy (stepOf field s))) (λ l u. l ++ fbTypesBy (fbTypeStep s) (stepOf field s) (suc i) n u) ≡ each fbTypeLines bs
+        → onStep (lined (withFields t x) (fbTypeBy (stepOf field s))) (λ l u. l ++ fbTypesBy (fbTypeStepOf s) (stepOf field s) (suc i) n u) ≡ each fbTypeLines bs
     go rec ends e = let z : [] ≡ bs = same-found e in rw (← z)
     go rec (faulty f) e = never e
     go rec (entry b u) e =

@@ -27,7 +27,7 @@ use Rattle.type_entries.specs.declared.Tables.{Tables}
 use Rattle.type_entries.proofs.Entries.{array-width, user-fb-fixed}
 use Rattle.type_entries.proofs.Sizes.{fields-left, fb-types-many, fb-type-at}
 use Rattle.type_entries.proofs.Standing.{standing, readable}
-use Rattle.type_section.specs.Lookups.{FbTypeEntry, fbTypeEntry, fbTypeOfSection, fieldOfSection, arrayOfSection, userFbOfSection, fbTypeStep, withFields}
+use Rattle.type_section.specs.Lookups.{FbTypeEntry, fbTypeEntry, fbTypeOfSection, fieldOfSection, arrayOfSection, userFbOfSection, fbTypeStepOf, withFields}
 
 -- an FB type at a place, by its head
 abbrev pub headEntry : ℕ → FbTypeHead → FbTypeEntry
@@ -152,10 +152,10 @@ fields-refused s i j f e h = go (itemOf (typeTables s)) (sym e ∙ h)
     go (found t) k = refused-then (indexed noEntry (t .fbTypes) i) (fbTypeEntry (2 + fbTypesSize (take i (t .fbTypes)))) (λ b. indexed noEntry (b .fields) j) f k
 
 -- a step over an FB type, by what was read there
-pub fb-type-step : (s : List ℕ) (t : Table) → (t .count ≡ 0 → ⊥) → {v x : Step FbTypeHead} → v ≡ x → Reads fbTypeHead s (t .at) v → nextBy t (placed (t .at) x) ≡ fbTypeStep s t
+pub fb-type-step : (s : List ℕ) (t : Table) → (t .count ≡ 0 → ⊥) → {v x : Step FbTypeHead} → v ≡ x → Reads fbTypeHead s (t .at) v → nextBy t (placed (t .at) x) ≡ fbTypeStepOf s t
 fb-type-step s t h {v} {x} e g = go x (reads-told fbTypeHead s (t .at) e g)
   where
-    go : (x : Step FbTypeHead) → Reads fbTypeHead s (t .at) x → nextBy t (placed (t .at) x) ≡ fbTypeStep s t
+    go : (x : Step FbTypeHead) → Reads fbTypeHead s (t .at) x → nextBy t (placed (t .at) x) ≡ fbTypeStepOf s t
     go (stops f) g = ap (withFields t) (step-stops fbType s t h (made-stops fbTypeHeadOf (fbType (drop (t .at) s)) f g))
     go (item y m) g =
         let b = made-gives fbTypeHeadOf (fbType (drop (t .at) s)) y (drop m s) (g .1) in

@@ -8,7 +8,7 @@ use Rattle.reading.specs.Places.{Next, ends, faulty, entry, walked}
 use Rattle.reading.specs.declared.Table.{Table}
 use Rattle.format.specs.Types.{field, FbType, array, userFb, TypeTables, typeTables}
 use Rattle.type_entries.specs.Starts.{fbTypesStart, arraysStart, userFbsStart}
-use Rattle.type_section.specs.Lookups.{FbTypeEntry, fbTypeStep}
+use Rattle.type_section.specs.Lookups.{FbTypeEntry, fbTypeStepOf}
 
 -- at most `n` FB types by steps, each with its fields by steps
 abbrev pub onFbType : List ℕ → Next FbTypeEntry → (Table → Got (List FbType)) → Got (List FbType)
@@ -18,7 +18,7 @@ onFbType s (entry b u) go = walked (b .fields .count) field s (b .fields) >>= λ
 
 abbrev pub fbTypesWalked : ℕ → List ℕ → Table → Got (List FbType)
 fbTypesWalked zero s t = found []
-fbTypesWalked (suc n) s t = onFbType s (fbTypeStep s t) (fbTypesWalked n s)
+fbTypesWalked (suc n) s t = onFbType s (fbTypeStepOf s t) (fbTypesWalked n s)
 
 pub record Laws : Type 0 where
   pub fbTypes : (s : List ℕ) (t : TypeTables) → itemOf (typeTables s) ≡ found t → fbTypesWalked (length (t .fbTypes)) s (fbTypesStart t) ≡ found (t .fbTypes)

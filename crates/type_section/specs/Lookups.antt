@@ -80,8 +80,8 @@ withFields t ends = ends
 withFields t (faulty f) = faulty f
 withFields t (entry b u) = entry (fbTypeEntry (t .at) b) u
 
-abbrev pub fbTypeStep : List ℕ → Table → Next FbTypeEntry
-fbTypeStep s t = withFields t (stepOf fbType s t)
+abbrev pub fbTypeStepOf : List ℕ → Table → Next FbTypeEntry
+fbTypeStepOf s t = withFields t (stepOf fbType s t)
 
 abbrev pub nextFbTypeAt : List ℕ → Place → Table → Next FbTypeEntry
 nextFbTypeAt f p t = withFields t (stepIn f p fbType t)

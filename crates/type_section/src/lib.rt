@@ -5,7 +5,7 @@ ghost use Rattle.format.specs.Types.{field, array, userFb};
 ghost use Rattle.base.specs.Section.{placeIn, startFrom};
 ghost use Rattle.type_entries.specs.Answers.{sizeFrom, typeStartsFrom};
 ghost use Rattle.type_section.specs.Answers.{typeCountsFrom, fbTypeFrom, fbTypePlacedFrom, fieldFrom, arrayFrom, userFbFrom, fbTypeNextFrom, fieldNextFrom, arrayNextFrom, userFbNextFrom};
-ghost use Rattle.type_section.specs.Lookups.{typeCountsOfSection, fbTypeOfSection, fieldOfSection, arrayOfSection, userFbOfSection, tablesAt, fbTypeAt, fieldAt, arrayAt, arraySizeAt, userFbAt, fbTypesAt, arraysAt, userFbsAt, fbTypeStep, nextFbTypeAt, nextFieldAt, nextArrayAt, nextUserFbAt};
+ghost use Rattle.type_section.specs.Lookups.{typeCountsOfSection, fbTypeOfSection, fieldOfSection, arrayOfSection, userFbOfSection, tablesAt, fbTypeAt, fieldAt, arrayAt, arraySizeAt, userFbAt, fbTypesAt, arraysAt, userFbsAt, fbTypeStepOf, nextFbTypeAt, nextFieldAt, nextArrayAt, nextUserFbAt};
 ghost use Rattle.type_section.specs.Laws.{Laws};
 use base::error::ContainerError;
 use base::section::PartAnswer;
@@ -316,7 +316,7 @@ pub fn user_fbs(file: &[u8], section: Section) -> StartAnswer
 
 // The next entry of a walk over a table of the section `s`.
 fn next_fb_type_in(s: &[u8], t: Table) -> FbTypeNext
-    ensures { λ r. ⌜ fbTypeNextFrom r ≡ fbTypeStep (now (s .entry)) t ⌝ }
+    ensures { λ r. ⌜ fbTypeNextFrom r ≡ fbTypeStepOf (now (s .entry)) t ⌝ }
 {
     let at = t.at;
     let count = t.count;

@@ -4,12 +4,12 @@ use Prim.Native.Nat.{_+_, _≤_}
 use native.Mathlib.Omega.{arith}
 use lib.ListN.{length}
 use denote.Ref.{now}
-use Rattle.reading.specs.Answer.{found, _>>=_}
+use Rattle.reading.specs.Answer.{found}
 use Rattle.format.specs.Parts.{byPlace}
 use Rattle.format.specs.Constants.{constants}
 use Rattle.base.specs.Section.{placeIn, partFrom, PartWithin}
 use Rattle.base.proofs.Sections.{section-refused}
-use Rattle.constant_pool.proofs.Pool.{handed-length, handed-pool, start-as}
+use Rattle.constant_pool.proofs.Pool.{handed-length, handed-start}
 use Rattle.constant_pool.proofs.Getters.{after-refused}
 use borrow.Author.Needs.{needs}
 use Rattle.constant_pool.proofs.constants.Statement.{statement}
@@ -43,7 +43,7 @@ returns-2 c =
     let a = c .before .before .before .before .before .before .before .before .args in
     let v = c .before .before .before .before .p .given in
     let e = sym (ap partFrom (v .1)) ∙ c .before .before .before .before .before .before .section-part .ensures .0 in
-    start-as _ _ (c .table .result) (c .table .ensures) ∙ ap (λ x. x >>= λ cs. found (record { at = 2; count = length cs })) (handed-pool (now (a .file)) (placeIn (a .section)) (v .0 .0) e (within (c .before .before .before)))
+    c .table .ensures ∙ handed-start (now (a .file)) (placeIn (a .section)) (v .0 .0) e (within (c .before .before .before))
 
 pub constants-spec : {M : Type 1} → statement M
 constants-spec =
