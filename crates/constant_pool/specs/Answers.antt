@@ -1,19 +1,25 @@
 -- What the code's answers mean, and what holds of the parts in them.
-use Prim.Native.Nat.{ℕ, _+_, _≤_}
+use Prim.Native.Nat.{ℕ, _+_, _-_, _≤_}
+use mathlib.Core.Bool.{true}
 use mathlib.Core.List.{List}
+use mathlib.Core.Path.{_≡_}
 use lib.IntN.{ℤ}
 use Rattle.reading.specs.Numbers.{bytesLe}
 use Rattle.reading.specs.Answer.{Got, refused, found}
-use Rattle.reading.specs.Places.{Step, stops, item, Next, ends, faulty, entry}
+use Rattle.reading.specs.Places.{Step, stops, item, Reads, Next, ends, faulty, entry}
 use Rattle.format.specs.Parts.{Place}
 use Rattle.format.specs.Constants as format
-use Rattle.format.specs.Constants.{Constant, number, string}
+use Rattle.format.specs.Constants.{Constant, number, string, sizeFits}
 use Rattle.base.specs.Error.{faultOf}
 use Rattle.base.specs.Small.{constTypeNumber, byteWidth}
-use Rattle.base.specs.Section.{partIn}
+use Rattle.base.specs.Section.{partIn, startFrom}
+use Rattle.base.specs.declared.section.StartAnswer.{StartAnswer}
+use Rattle.constant_pool.specs.Lookups.{constantOver, keptOver, poolFrom}
 use Rattle.constant_pool.specs.declared.Kept.{Kept}
 use Rattle.constant_pool.specs.declared.Kept.the-variants as kept
 use Rattle.constant_pool.specs.declared.ConstEntry.{ConstEntry}
+use Rattle.constant_pool.specs.declared.HeadAnswer.{HeadAnswer}
+use Rattle.constant_pool.specs.declared.HeadAnswer.the-variants as head
 use Rattle.constant_pool.specs.declared.ConstStep.{ConstStep}
 use Rattle.constant_pool.specs.declared.ConstStep.the-variants as step
 use Rattle.constant_pool.specs.declared.CountAnswer.{CountAnswer}
@@ -46,6 +52,19 @@ abbrev pub KeptEnds : ℕ → Kept → Type 0
 KeptEnds most (kept.Number n) = Unit {0}
 KeptEnds most (kept.Part p) = p .offset + p .size ≤ most
 
+-- an entry by its type and its end, wherever the section starts in the file
+abbrev pub headFrom : ℕ → List ℕ → ℕ → HeadAnswer → Step (Constant Place)
+headFrom base s at (head.Refused e) = stops (faultOf e)
+headFrom base s at (head.Head t m) = item (record { kind = constTypeNumber t; kept = keptOver base s (constTypeNumber t) (at + 4) (m - (at + 4)) }) m
+
+abbrev pub HeadAs : List ℕ → ℕ → HeadAnswer → Type 0
+HeadAs s at r = (base : ℕ) → Reads (constantOver base s) s at (headFrom base s at r)
+
+-- the bytes behind the head are as many as the type may have. This follows too, and is said for callers, who take them
+abbrev pub HeadFits : ℕ → HeadAnswer → Type 0
+HeadFits at (head.Refused e) = Unit {0}
+HeadFits at (head.Head t m) = (at + 4 ≤ m) × (sizeFits (constTypeNumber t) (m - (at + 4)) ≡ true)
+
 -- an entry read at a place
 abbrev pub stepFrom : ConstStep → Step (Constant Place)
 stepFrom (step.Refused e) = stops (faultOf e)
@@ -54,6 +73,10 @@ stepFrom (step.Entry c m) = item (constIn c) m
 abbrev pub StepEnds : ℕ → ConstStep → Type 0
 StepEnds most (step.Refused e) = Unit {0}
 StepEnds most (step.Entry c m) = KeptEnds most (c .kept)
+
+-- where the constants stand, wherever the section starts in the file
+abbrev pub TableAs : List ℕ → ℕ → StartAnswer → Type 0
+TableAs s k r = (base : ℕ) → startFrom r ≡ poolFrom base s k
 
 abbrev pub countFrom : CountAnswer → Got ℕ
 countFrom (count.Refused e) = refused (faultOf e)

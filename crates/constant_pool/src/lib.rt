@@ -8,8 +8,8 @@ ghost use Rattle.reading.specs.Places.{Reads, stepOf};
 ghost use Rattle.format.specs.Constants.{sizeFits, signed};
 ghost use Rattle.base.specs.Small.{constTypeNumber};
 ghost use Rattle.base.specs.Section.{placeIn, partFrom, PartWithin, startFrom, bytesOr};
-ghost use Rattle.constant_pool.specs.Answers.{keptIn, KeptEnds, stepFrom, StepEnds, countFrom, constFrom, ConstEnds, constNextFrom, NextEnds, keptFrom, u32From, u64From, i32From, i64From, widthFrom};
-ghost use Rattle.constant_pool.specs.Lookups.{constantOver, keptOver, poolCount, poolFrom, constantIn, constantAt, keptAt, numberAt, i32At, u32At, i64At, u64At, f32At, f64At, stringAt, charWidthAt, startAt, nextConstantAt};
+ghost use Rattle.constant_pool.specs.Answers.{keptIn, KeptEnds, HeadAs, HeadFits, stepFrom, StepEnds, TableAs, countFrom, constFrom, ConstEnds, constNextFrom, NextEnds, keptFrom, u32From, u64From, i32From, i64From, widthFrom};
+ghost use Rattle.constant_pool.specs.Lookups.{constantOver, keptOver, poolCount, constantIn, constantAt, keptAt, numberAt, i32At, u32At, i64At, u64At, f32At, f64At, stringAt, charWidthAt, startAt, nextConstantAt};
 ghost use Rattle.constant_pool.specs.Laws.{Laws};
 use base::char_width::CharWidth;
 use base::const_type::ConstType;
@@ -42,6 +42,12 @@ pub enum Kept {
 pub struct ConstEntry {
     pub const_type: ConstType,
     pub kept: Kept,
+}
+
+// An entry's type and where it ends.
+pub enum HeadAnswer {
+    Refused(ContainerError),
+    Head(ConstType, usize),
 }
 
 // An entry read at a place, and where it ends.
@@ -146,35 +152,48 @@ fn kept_at(s: &[u8], base: usize, at: usize, const_type: ConstType, size: usize)
     Kept::Number(number_at(s, at, size))
 }
 
+// The head of the entry at the place `at` of the section `s`, all of which is there.
+fn read_head(s: &[u8], at: usize) -> HeadAnswer
+    requires { ⌜ at ≤ length (now s) ⌝ }
+    ensures { λ r. ⌜ HeadAs (now (s .entry)) at r × HeadFits at r ⌝ }
+{
+    if s.len() - at < HEAD_SIZE {
+        return HeadAnswer::Refused(ContainerError::ShortInput);
+    }
+    let size = u16_at(s, at + 2) as usize;
+    match ConstType::from_u8(u8_at(s, at)) {
+        ConstTypeAnswer::Refused(e) => HeadAnswer::Refused(e),
+        ConstTypeAnswer::Type(const_type) => {
+            if size_fits(const_type, size) {
+                let place = at + HEAD_SIZE;
+                if s.len() - place < size {
+                    return HeadAnswer::Refused(ContainerError::ShortInput);
+                }
+                return HeadAnswer::Head(const_type, place + size);
+            }
+            HeadAnswer::Refused(ContainerError::InvalidConstantType(const_type.number()))
+        }
+    }
+}
+
 // The entry at the place `at` of the section `s`, which starts at `base` of the file.
 fn read_entry(s: &[u8], base: usize, at: usize) -> ConstStep
     requires { ⌜ (at ≤ length (now s)) × (base + length (now s) < 2 ^ 64) ⌝ }
     ensures { λ r. ⌜ Reads (constantOver base (now (s .entry))) (now (s .entry)) at (stepFrom r) × StepEnds (base + length (now (s .entry))) r ⌝ }
 {
-    if s.len() - at < HEAD_SIZE {
-        return ConstStep::Refused(ContainerError::ShortInput);
-    }
-    let size = u16_at(s, at + 2) as usize;
-    match ConstType::from_u8(u8_at(s, at)) {
-        ConstTypeAnswer::Refused(e) => ConstStep::Refused(e),
-        ConstTypeAnswer::Type(const_type) => {
-            if size_fits(const_type, size) {
-                let place = at + HEAD_SIZE;
-                if s.len() - place < size {
-                    return ConstStep::Refused(ContainerError::ShortInput);
-                }
-                let kept = kept_at(s, base, place, const_type, size);
-                return ConstStep::Entry(ConstEntry { const_type, kept }, place + size);
-            }
-            ConstStep::Refused(ContainerError::InvalidConstantType(const_type.number()))
+    match read_head(s, at) {
+        HeadAnswer::Refused(e) => ConstStep::Refused(e),
+        HeadAnswer::Head(const_type, end) => {
+            let place = at + HEAD_SIZE;
+            let kept = kept_at(s, base, place, const_type, end - place);
+            ConstStep::Entry(ConstEntry { const_type, kept }, end)
         }
     }
 }
 
 // The entries of the section `s` from the index `k` on. All entries are read, and those from `k` on looked for on the way.
-fn table(s: &[u8], base: usize, k: usize) -> StartAnswer
-    requires { ⌜ base + length (now s) < 2 ^ 64 ⌝ }
-    ensures { λ r. ⌜ startFrom r ≡ poolFrom base (now (s .entry)) k ⌝ }
+fn table(s: &[u8], k: usize) -> StartAnswer
+    ensures { λ r. ⌜ TableAs (now (s .entry)) k r ⌝ }
 {
     if s.len() < 2 {
         return StartAnswer::Refused(ContainerError::ShortInput);
@@ -184,12 +203,12 @@ fn table(s: &[u8], base: usize, k: usize) -> StartAnswer
     let mut p = 2;
     let mut i = 0;
     while i < count {
-        match read_entry(s, base, p) {
-            ConstStep::Refused(e) => {
+        match read_head(s, p) {
+            HeadAnswer::Refused(e) => {
                 return StartAnswer::Refused(e);
             }
-            ConstStep::Entry(_, m) => {
-                p = m;
+            HeadAnswer::Head(_, end) => {
+                p = end;
                 i += 1;
                 if i <= k {
                     t = Table {
@@ -207,7 +226,7 @@ fn table(s: &[u8], base: usize, k: usize) -> StartAnswer
 pub fn read_from(s: &[u8]) -> CountAnswer
     ensures { λ r. ⌜ countFrom r ≡ poolCount (now (s .entry)) ⌝ }
 {
-    match table(s, 0, 0) {
+    match table(s, 0) {
         StartAnswer::Refused(e) => CountAnswer::Refused(e),
         StartAnswer::Start(t) => CountAnswer::Count(t.count as u16),
     }
@@ -243,7 +262,7 @@ fn find(s: &[u8], base: usize, index: ConstantIndex) -> ConstAnswer
     requires { ⌜ base + length (now s) < 2 ^ 64 ⌝ }
     ensures { λ r. ⌜ (constFrom r ≡ constantIn base (now (s .entry)) (index .0)) × ConstEnds (base + length (now (s .entry))) r ⌝ }
 {
-    match table(s, base, index.0 as usize) {
+    match table(s, index.0 as usize) {
         StartAnswer::Refused(e) => ConstAnswer::Refused(e),
         StartAnswer::Start(t) => match next_in(s, base, t) {
             ConstNext::End => ConstAnswer::Refused(ContainerError::InvalidConstantIndex(index)),
@@ -432,7 +451,7 @@ pub fn constants(file: &[u8], section: Section) -> StartAnswer
         PartAnswer::Part(p) => {
             let start = p.offset;
             let end = start + p.size;
-            table(&file[start..end], start, 0)
+            table(&file[start..end], 0)
         }
     }
 }

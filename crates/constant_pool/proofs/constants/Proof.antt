@@ -43,7 +43,7 @@ returns-2 c =
     let a = c .before .before .before .before .before .before .before .before .args in
     let v = c .before .before .before .before .p .given in
     let e = sym (ap partFrom (v .1)) ∙ c .before .before .before .before .before .before .section-part .ensures .0 in
-    c .table .ensures ∙ handed-start (now (a .file)) (placeIn (a .section)) (v .0 .0) e (within (c .before .before .before))
+    c .table .ensures (v .0 .0 .offset) ∙ handed-start (now (a .file)) (placeIn (a .section)) (v .0 .0) e (within (c .before .before .before))
 
 pub constants-spec : {M : Type 1} → statement M
 constants-spec =
