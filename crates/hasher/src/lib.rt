@@ -313,7 +313,8 @@ impl Hasher {
         self.take_chunk(s, at)
     }
 
-    // The state fed with the bytes of `s`. The values that wait are copied at a chunk's end alone.
+    // The state fed with the bytes of `s`. A turn takes in the full block, whole chunks, whole blocks, or what the block has room for. The
+    // last two alter the state in place, so that the values that wait are not copied for them.
     pub fn update(self, s: &[u8]) -> Hasher
         ensures { λ r. ⌜ r ≡ T.fed self (now (s .entry)) ⌝ }
     {
