@@ -2,15 +2,13 @@
 use mathlib.Core.Path.{_≡_, refl, sym, ap, _∙_}
 use mathlib.Core.List.{List}
 use Prim.Native.Nat.{ℕ}
+use native.Mathlib.Omega.{arith}
 use lib.ListN.{length}
-use Rattle.reading.specs.Reader.{u16}
 use Rattle.reading.specs.Answer.{Got, refused, found, itemOf}
-use Rattle.reading.specs.Places.{walked}
+use Rattle.reading.specs.Places.{leftOf, walked}
 use Rattle.reading.specs.declared.Table.{Table}
-use Rattle.reading.proofs.Reading.{both}
-use Rattle.reading.proofs.Width.{width-number}
-use Rattle.reading.proofs.Tables.{many-length}
-use Rattle.reading.proofs.Left.{walk-is-table}
+use Rattle.reading.proofs.Tables.{counted-stands}
+use Rattle.reading.proofs.Left.{walk-gives}
 use Rattle.format.specs.Parts.{Place, cut, byPlace}
 use Rattle.format.specs.Constants.{Constant, constant, constants}
 use Rattle.format.proofs.Answers.{never, same-found, steps, item-got}
@@ -20,18 +18,14 @@ use Rattle.constant_pool.specs.Lookups.{poolAt, startAt}
 use Rattle.constant_pool.specs.Laws.{Walk, Laws}
 use Rattle.constant_pool.proofs.Entries.{stays-constant}
 
-module _ (p : Place) (s : List ℕ) (cs : List (Constant Place)) (t : Table) where
-  walk-gives : itemOf (constants (byPlace p) s) ≡ found cs → record { at = 2; count = length cs } ≡ t → walked (t .count) (constant (byPlace p)) s t ≡ found cs
-  unfolding constants
-  walk-gives e h =
-      let r = constant (byPlace p) in
-      let g = item-got (constants (byPlace p) s) cs e in
-      let k = both (u16 s) (g .1) in
-      let m = width-number 2 .takes s (k .item) (k .middle) (k .first) .0 in
-      let n = many-length r (k .item) (k .middle) cs (g .0) (k .second) in
-      let at : t .at ≡ 2 = sym (ap (λ (u : Table). u .at) h) in
-      let count : t .count ≡ k .item = sym (ap (λ (u : Table). u .count) h) ∙ n in
-      walk-is-table s r (stays-constant s (byPlace p)) (t .count) t refl ∙ rw (at, count, ← m, k .second)
+steps-give : (p : Place) (s : List ℕ) (cs : List (Constant Place)) (t : Table) → itemOf (constants (byPlace p) s) ≡ found cs → record { at = 2; count = length cs } ≡ t
+    → walked (t .count) (constant (byPlace p)) s t ≡ found cs
+unfolding constants
+steps-give p s cs t e h =
+    let r = constant (byPlace p) in
+    let g = item-got (constants (byPlace p) s) cs e in
+    let d = counted-stands r s 0 cs (g .0) (omega arith) (g .1) in
+    walk-gives s r (stays-constant s (byPlace p)) t cs (d .rest) (ap (leftOf r s) (sym h) ∙ d .reads)
 
 walk : (f : List ℕ) (p : Place) (t : Table) → startAt f p ≡ found t → Walk f p t
 walk f p t e = go (sectionPart f p) refl
@@ -43,7 +37,7 @@ walk f p t e = go (sectionPart f p) refl
         let g = section-found f p (constants (byPlace p)) q (sym h) in
         record {
           steps = λ u. ap (λ x. stepBy f x (constant (byPlace p)) u) h ∙ rw (g .same);
-          gives = walk-gives p (cut f p) (k .item) t (sym (g .reads) ∙ k .first) (same-found (k .second)) ∙ sym (k .first);
+          gives = steps-give p (cut f p) (k .item) t (sym (g .reads) ∙ k .first) (same-found (k .second)) ∙ sym (k .first);
         }
 
 pub laws : Laws
