@@ -1,5 +1,5 @@
 -- The pool over the section's bytes, and the section as its part of the file.
-use mathlib.Core.Path.{_≡_, refl, sym, ap, _∙_}
+use mathlib.Core.Path.{_≡_, refl, sym, ap, subst, _∙_}
 use mathlib.Core.List.{List, map}
 use Prim.Native.Nat.{ℕ, _+_, _-_, _≤_, _<_}
 use native.Mathlib.Nat.{add-sub-cancel-left}
@@ -21,8 +21,10 @@ use Rattle.format.specs.Constants.{Constant, onConstant, constants}
 use Rattle.format.proofs.Places.{placed-alone}
 use Rattle.format.proofs.Answers.{same-found, steps, refused-then, found-then, item-got}
 use Rattle.format.proofs.Keeping.{Alike, stops, gives, same-constants}
-use Rattle.base.specs.Section.{partIn, sectionPart}
+use Rattle.base.specs.Section.{partIn, partFrom, PartWithin, sectionPart}
 use Rattle.base.specs.declared.section.Part.{Part}
+use Rattle.base.specs.declared.section.PartAnswer.{PartAnswer}
+use Rattle.base.specs.declared.section.PartAnswer.the-variants as part
 use Rattle.base.proofs.Sections.{section-found}
 use Rattle.constant_pool.specs.Lookups.{placeOf, constantOver, poolCount, poolFrom, constantIn, poolAt, startAt}
 use Rattle.constant_pool.specs.Answers.{KeptEnds, ConstEnds, NextEnds}
@@ -81,28 +83,35 @@ module _ (base : ℕ) (s : List ℕ) (index : ℕ) where
       → firstOf (invalidConstantIndex index) x ≡ constantIn base s index
   find-by t e d g = ap (firstOf (invalidConstantIndex index)) (sym d ∙ g) ∙ ap (λ x. x >>= firstIn) e ∙ find-as
 
--- the section handed on as its part of the file
-module _ (f : List ℕ) (p : Place) (q : Part) (e : found (partIn q) ≡ sectionPart f p) (l : q .offset + q .size ≤ length f) where
-  abbrev handed : List ℕ
-  handed = take (q .offset + q .size - q .offset) (drop (q .offset) f)
+-- the section handed on as its part `q` of the file
+abbrev handed : List ℕ → Part → List ℕ
+handed f q = take (q .offset + q .size - q .offset) (drop (q .offset) f)
 
-  pub handed-length : length handed ≡ q .size
-  handed-length = rw add-sub-cancel-left (length-part f (q .offset) (q .size) l)
+pub record Handed (f : List ℕ) (p : Place) (q : Part) : Type 0 where
+  pub is : found (partIn q) ≡ sectionPart f p
+  pub within : q .offset + q .size ≤ length f
+  pub size : length (handed f q) ≡ q .size
 
+pub handed-by : (f : List ℕ) (p : Place) (q : Part) {r : PartAnswer} → r ≡ part.Part q → (partFrom r ≡ sectionPart f p) × PartWithin f r → Handed f p q
+handed-by f p q e h =
+    let w = subst (PartWithin f) e (h .1) in
+    record { is = sym (ap partFrom e) ∙ h .0; within = w; size = rw add-sub-cancel-left (length-part f (q .offset) (q .size) w) }
+
+module _ (f : List ℕ) (p : Place) (q : Part) (h : Handed f p q) where
   pub handed-same : partIn q ≡ p
-  handed-same = section-found f p (constants byBytes) (partIn q) e .same
+  handed-same = section-found f p (constants byBytes) (partIn q) (h .is) .same
 
-  pub handed-as : {B : Type 0} (of : List ℕ → Place → B) → of handed (placeOf (q .offset) handed) ≡ of (cut f p) p
+  pub handed-as : {B : Type 0} (of : List ℕ → Place → B) → of (handed f q) (placeOf (q .offset) (handed f q)) ≡ of (cut f p) p
   handed-as of =
-      let place : placeOf (q .offset) handed ≡ p = ap (λ (n : ℕ). record { offset = q .offset; size = n }) handed-length ∙ handed-same in
-      let bytes : handed ≡ cut f p = rw add-sub-cancel-left (ap (cut f) handed-same) in
-      ap (of handed) place ∙ ap (λ s. of s p) bytes
+      let place : placeOf (q .offset) (handed f q) ≡ p = ap (λ (n : ℕ). record { offset = q .offset; size = n }) (h .size) ∙ handed-same in
+      let bytes : handed f q ≡ cut f p = rw add-sub-cancel-left (ap (cut f) handed-same) in
+      ap (of (handed f q)) place ∙ ap (λ s. of s p) bytes
 
-  pub handed-pool : itemOf (constants (byPlace (placeOf (q .offset) handed)) handed) ≡ poolAt f p
-  handed-pool = handed-as (λ s p. itemOf (constants (byPlace p) s)) ∙ sym (section-found f p (constants (byPlace p)) (partIn q) e .reads)
+  pub handed-pool : itemOf (constants (byPlace (placeOf (q .offset) (handed f q))) (handed f q)) ≡ poolAt f p
+  handed-pool = handed-as (λ s p. itemOf (constants (byPlace p) s)) ∙ sym (section-found f p (constants (byPlace p)) (partIn q) (h .is) .reads)
 
-  pub handed-start : poolFrom (q .offset) handed 0 ≡ startAt f p
-  handed-start = start-is (q .offset) handed ∙ ap (λ x. x >>= λ cs. found (record { at = 2; count = length cs })) handed-pool
+  pub handed-start : poolFrom (q .offset) (handed f q) 0 ≡ startAt f p
+  handed-start = start-is (q .offset) (handed f q) ∙ ap (λ x. x >>= λ cs. found (record { at = 2; count = length cs })) handed-pool
 
 -- what ends at a place or before it ends before a later one
 kept-ends : (m n : ℕ) → m ≤ n → (k : Kept) → KeptEnds m k → KeptEnds n k

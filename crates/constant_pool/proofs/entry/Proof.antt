@@ -1,6 +1,5 @@
 -- `constant_pool::entry` meets its contract: the section's place decides, and then the lookup in its part of the file.
-use mathlib.Core.Path.{_∙_, ap, sym, subst}
-use Prim.Native.Nat.{_+_, _≤_}
+use mathlib.Core.Path.{_∙_, ap, sym}
 use native.Mathlib.Omega.{arith}
 use lib.ListN.{length}
 use denote.Ref.{now}
@@ -8,29 +7,26 @@ use Rattle.reading.specs.Answer.{_>>=_}
 use Rattle.format.specs.Parts.{byPlace}
 use Rattle.format.specs.Constants.{constants}
 use Rattle.format.specs.Lookups.{constantOf}
-use Rattle.base.specs.Section.{placeIn, partFrom, PartWithin}
+use Rattle.base.specs.Section.{placeIn, partFrom}
 use Rattle.base.proofs.Sections.{section-refused}
-use Rattle.constant_pool.proofs.Pool.{handed-length, handed-pool, const-ends}
+use Rattle.constant_pool.proofs.Pool.{Handed, handed-by, handed-pool, const-ends}
 use Rattle.constant_pool.proofs.Getters.{after-refused}
 use borrow.Author.Needs.{needs}
 use Rattle.constant_pool.proofs.entry.Statement.{statement}
 use Rattle.constant_pool.proofs.entry.Tie as tie
 
--- the section lies in the file
-within : (c : tie.After-known-told2) → let q = c .before .p .given .0 .0 in q .offset + q .size ≤ length (now (c .before .before .before .before .before .args .file))
-within c = subst (PartWithin (now (c .before .before .before .before .before .args .file))) (c .before .p .given .1) (c .before .before .before .section-part .ensures .1)
+-- the section's part of the file
+handed : (c : tie.After-known-told2) → let a = c .before .before .before .before .before .args in Handed (now (a .file)) (placeIn (a .section)) (c .before .p .given .0 .0)
+handed c = let a = c .before .before .before .before .before .args in handed-by (now (a .file)) (placeIn (a .section)) (c .before .p .given .0 .0) (c .before .p .given .1) (c .before .before .before .section-part .ensures)
 
 add-end : tie.Need-add-end
-add-end c = omega (arith, within (c .before))
+add-end c = omega (arith, handed (c .before) .within)
 
 part-find-end : tie.Need-part-find-end
-part-find-end c = omega (arith, within (c .before))
+part-find-end c = omega (arith, handed (c .before) .within)
 
 find-requires : tie.Need-find-requires
-find-requires c κs =
-    let v = c .before .before .before .p .given in
-    let e = sym (ap partFrom (v .1)) ∙ c .before .before .before .before .before .section-part .ensures .0 in
-    omega (arith, within (c .before .before), handed-length (now (c .before .before .before .before .before .before .before .args .file)) (placeIn (c .before .before .before .before .before .before .before .args .section)) (v .0 .0) e (within (c .before .before)))
+find-requires c κs = let h = handed (c .before .before) in omega (arith, h .within, h .size)
 
 returns : tie.Need-returns
 returns c =
@@ -43,12 +39,10 @@ returns-2 : tie.Need-returns-2
 returns-2 c =
     let a = c .before .before .before .before .before .before .before .before .args in
     let f = now (a .file) in
-    let v = c .before .before .before .before .p .given in
-    let w = within (c .before .before .before) in
-    let e = sym (ap partFrom (v .1)) ∙ c .before .before .before .before .before .before .section-part .ensures .0 in
     let p = placeIn (a .section) in
-    let l = handed-length f p (v .0 .0) e w in
-    (c .find .ensures .0 ∙ ap (λ x. x >>= constantOf (a .index .0)) (handed-pool f p (v .0 .0) e w), const-ends _ (length f) (omega (arith, w, l)) (c .find .result) (c .find .ensures .1))
+    let q = c .before .before .before .before .p .given .0 .0 in
+    let h = handed (c .before .before .before) in
+    (c .find .ensures .0 ∙ ap (λ x. x >>= constantOf (a .index .0)) (handed-pool f p q h), const-ends _ (length f) (omega (arith, h .within, h .size)) (c .find .result) (c .find .ensures .1))
 
 pub entry-spec : {M : Type 1} → statement M
 entry-spec =
