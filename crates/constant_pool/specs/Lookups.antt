@@ -33,7 +33,7 @@ constantOver base s = constant (byPlace (placeOf base s))
 abbrev pub keptOver : ℕ → List ℕ → ℕ → ℕ → ℕ → Kept Place
 keptOver base s kind at size = keptOf (byPlace (placeOf base s)) kind (part at size s) (length s - (at + size))
 
--- the constants from the index `k` on, which all of the section must read for
+-- where the constants from the index `k` on stand, if all of the section reads
 abbrev pub poolFrom : ℕ → List ℕ → ℕ → Got Table
 poolFrom base s k = itemOf (tableFrom (length s) k (constantOver base s) s)
 
