@@ -1,24 +1,28 @@
 /* The start-up card's lines of a container: its content hash, constant 0, and the source line of function 0 at offset 3.
  *     card FILE
- * What the file has not, and a file that is no container, is refused with its number. */
+ * What the file has not, and a file that is no container, is refused with its number and values. */
 #include "nurqeshil.h"
 #include <inttypes.h>
 #include <stdio.h>
 
 /* One byte beyond the library's limit: a longer file is cut there, and refused with 10. */
 static uint8_t file[65537];
-static uint64_t numbers[64];
+static uint64_t numbers[CONTAINER_ROOM];
 
-static int refused(uint64_t number) {
-    printf("refused %" PRIu64 "\n", number);
+/* `count` numbers: that of a refusal, and its values. */
+static int refused(size_t count) {
+    printf("refused");
+    for (size_t i = 0; i < count; i++)
+        printf(" %" PRIu64, numbers[i]);
+    printf("\n");
     return 1;
 }
 
 static int print_hash(size_t length) {
-    uint8_t hash[32];
-    size_t number = container_content_hash(file, length, hash, sizeof hash);
-    if (number != 0)
-        return refused(number);
+    uint8_t hash[CONTAINER_DIGEST];
+    size_t count = container_content_hash(file, length, hash, sizeof hash, numbers, CONTAINER_ROOM);
+    if (numbers[0] != 0)
+        return refused(count);
     printf("content hash ");
     for (size_t i = 0; i < sizeof hash; i++)
         printf("%02x", hash[i]);
@@ -27,17 +31,17 @@ static int print_hash(size_t length) {
 }
 
 static int print_constant(size_t length) {
-    container_ask(file, length, CONTAINER_GET_I32, 0, 0, numbers, 64);
+    size_t count = container_ask(file, length, CONTAINER_GET_I32, 0, 0, numbers, CONTAINER_ROOM);
     if (numbers[0] != 0)
-        return refused(numbers[0]);
+        return refused(count);
     printf("constant 0 is %" PRId64 "\n", (int64_t)numbers[1]);
     return 0;
 }
 
 static int print_line(size_t length) {
-    container_line(file, length, 0, 3, numbers, 64);
+    size_t count = container_line(file, length, 0, 3, numbers, CONTAINER_ROOM);
     if (numbers[0] != 0)
-        return refused(numbers[0]);
+        return refused(count);
     printf("function 0 at 3 is line %" PRIu64 ", column %" PRIu64 "\n", numbers[4], numbers[5]);
     return 0;
 }

@@ -4,8 +4,8 @@
  *     cc main.c libcapi.a
  *
  * Every function reads the file anew and keeps nothing. None asks anything of the bytes: any file is answered, by what was asked for
- * or by a refusal's number (the table is in README.md). Pointers must not be null, also where a length or a room is 0, and a buffer
- * `out` must not overlap the bytes that are read.
+ * or by a refusal. Pointers must not be null, also where a length or a room is 0. A buffer that is lent (`out`, `digest`) must not
+ * overlap what is read, nor another that is lent.
  *
  * Answers in numbers. `out` then starts with 0 and the answer's numbers, or with a refusal's number and its values, and the function
  * answers how many; what stands behind them is left as it was. `room` counts numbers, and with room for less than
@@ -24,7 +24,28 @@ extern "C" {
 #define CONTAINER_ROOM 64    /* numbers that `out` must have room for */
 #define CONTAINER_LOADED 44  /* numbers of a file that loads */
 #define CONTAINER_DIGEST 32  /* bytes of a hash */
-#define CONTAINER_NO_ROOM 255 /* a hash does not fit; no refusal has this number */
+
+/* The refusals, with the values that stand behind their numbers. README.md says what to do about each. */
+enum container_refusal {
+    CONTAINER_SHORT_INPUT = 1,
+    CONTAINER_INVALID_MAGIC = 2,
+    CONTAINER_UNSUPPORTED_VERSION = 3,
+    CONTAINER_SECTION_SIZE_MISMATCH = 4,
+    CONTAINER_CONTENT_HASH_MISMATCH = 5,
+    CONTAINER_INVALID_TASK_TYPE = 6,       /* the type */
+    CONTAINER_INVALID_FIELD_TYPE = 7,      /* the type */
+    CONTAINER_INVALID_ARRAY_STRIDE = 8,    /* the element's type, the stride */
+    CONTAINER_INVALID_CONSTANT_TYPE = 9,   /* the type */
+    CONTAINER_TOO_LONG = 10,
+    CONTAINER_INVALID_CONSTANT_INDEX = 11, /* the index */
+    CONTAINER_NO_FUNCTION = 12,
+    CONTAINER_NO_LINE = 13,
+    CONTAINER_UNSORTED_MAP = 14,
+    CONTAINER_NO_DEBUG = 15,
+    CONTAINER_NO_ARRAY = 16,
+    CONTAINER_SIZE_OVERFLOW = 17,
+    CONTAINER_NO_ENTRY = 29
+};
 
 /* Loads a file. Behind the 0: version, profile, flags; offset and size of signature, debug signature, types, tasks, constants,
  * code, debug; stack depth, call depth, variables, data region bytes, temporary buffers, their bytes, functions, FB types,
@@ -66,21 +87,25 @@ enum container_kind {
 };
 
 /* Asks a lookup of a file that loads; a file that does not load answers its refusal. Bytes that are one number stand low byte
- * first in it. An unknown kind has no numbers: the answer is 0. */
+ * first in it. Of a file that loads, an unknown kind has no numbers: the answer is 0. Kind, index and second have 16 bits: the C compiler cuts a larger
+ * number to its low 16 bits without a warning, and another entry is looked up. Test first that it is at most 65,535. */
 size_t container_ask(const uint8_t *file, size_t length, uint16_t kind, uint16_t index, uint16_t second, uint64_t *out, size_t room);
 
-/* The same as container_ask of CONTAINER_LINE. */
+/* The same as container_ask of CONTAINER_LINE, with a function and an offset of 16 bits. */
 size_t container_line(const uint8_t *file, size_t length, uint16_t function, uint16_t offset, uint64_t *out, size_t room);
 
-/* The content hash in the header of a file that loads: 0, with 32 bytes at the start of `out` and the rest as it was; or a
- * refusal's number; or CONTAINER_NO_ROOM if `room`, in bytes, is less than 32. Only with 0 anything is written. */
-size_t container_content_hash(const uint8_t *file, size_t length, uint8_t *out, size_t room);
+/* The content hash in the header of a file that loads. `out` then starts with 0, or with a refusal's number and its values, and the
+ * function answers how many numbers these are (1, 2 or 3). With 0 the 32 bytes stand at the start of `digest`, and what is behind
+ * them is left as it was; with a refusal all of `digest` is. If `digest_length`, in bytes, is below CONTAINER_DIGEST or `room` below
+ * CONTAINER_ROOM, nothing is written and the answer is 0. */
+size_t container_content_hash(const uint8_t *file, size_t length, uint8_t *digest, size_t digest_length, uint64_t *out, size_t room);
 
-/* BLAKE3 of any bytes, in the same way; 10 if they are more than 261,376. */
-size_t container_hash(const uint8_t *bytes, size_t length, uint8_t *out, size_t room);
+/* BLAKE3 of any bytes, in the same way; CONTAINER_TOO_LONG if they are more than 261,376. */
+size_t container_hash(const uint8_t *bytes, size_t length, uint8_t *digest, size_t digest_length, uint64_t *out, size_t room);
 
-/* Lists a file, as the lister does: the text stands at the start of `out`, and its length is answered. With too little room the
- * answer is 0, and `out` may hold anything. Room for the text, 200 bytes and twice the length of the file is enough. */
+/* Lists a file, as the lister does: the text stands at the start of `out`, and its length is answered; the rest is left as it was.
+ * `room` counts bytes. If the text does not fit, the answer is 0, and `out` may hold anything. 26 bytes for each byte of the file and
+ * 300 more are always enough. */
 size_t container_list(const uint8_t *file, size_t length, uint8_t *out, size_t room);
 
 #ifdef __cplusplus

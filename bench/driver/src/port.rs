@@ -3,8 +3,22 @@
 unsafe extern "C" {
     fn container_load(file: *const u8, length: usize, out: *mut u64, room: usize) -> usize;
     fn container_ask(file: *const u8, length: usize, kind: u16, index: u16, second: u16, out: *mut u64, room: usize) -> usize;
-    fn container_content_hash(file: *const u8, length: usize, out: *mut u8, room: usize) -> usize;
-    fn container_hash(bytes: *const u8, length: usize, out: *mut u8, room: usize) -> usize;
+    fn container_content_hash(
+        file: *const u8,
+        length: usize,
+        digest: *mut u8,
+        digest_length: usize,
+        out: *mut u64,
+        room: usize,
+    ) -> usize;
+    fn container_hash(
+        bytes: *const u8,
+        length: usize,
+        digest: *mut u8,
+        digest_length: usize,
+        out: *mut u64,
+        room: usize,
+    ) -> usize;
     fn container_list(file: *const u8, length: usize, out: *mut u8, room: usize) -> usize;
 }
 
@@ -28,14 +42,16 @@ pub fn ask(file: &[u8], kind: u16, index: u16, second: u16, out: &mut Numbers) -
     unsafe { container_ask(file.as_ptr(), file.len(), kind, index, second, out.as_mut_ptr(), out.len()) }
 }
 
-/// A refusal's number, or 0.
-pub fn content_hash(file: &[u8], out: &mut [u8; 32]) -> usize {
-    unsafe { container_content_hash(file.as_ptr(), file.len(), out.as_mut_ptr(), out.len()) }
+/// The same of the content hash, whose bytes are put into `digest`.
+pub fn content_hash(file: &[u8], digest: &mut [u8; 32], out: &mut Numbers) -> usize {
+    let (place, length) = (digest.as_mut_ptr(), digest.len());
+    unsafe { container_content_hash(file.as_ptr(), file.len(), place, length, out.as_mut_ptr(), out.len()) }
 }
 
-/// A refusal's number, or 0.
-pub fn hash(bytes: &[u8], out: &mut [u8; 32]) -> usize {
-    unsafe { container_hash(bytes.as_ptr(), bytes.len(), out.as_mut_ptr(), out.len()) }
+/// The same of any bytes' hash.
+pub fn hash(bytes: &[u8], digest: &mut [u8; 32], out: &mut Numbers) -> usize {
+    let (place, length) = (digest.as_mut_ptr(), digest.len());
+    unsafe { container_hash(bytes.as_ptr(), bytes.len(), place, length, out.as_mut_ptr(), out.len()) }
 }
 
 /// The length of the listing.

@@ -1,8 +1,12 @@
--- What the code's numbers mean.
-use Prim.Native.Nat.{ℕ}
-use mathlib.Core.List.{List}
-use lib.ListN.{take}
+-- The code's numbers: how many they are, then each of them, and zeros behind them.
+use Prim.Native.Nat.{ℕ, _-_}
+use mathlib.Core.List.{List, _++_}
+use lib.ListN.{length, take, replicate}
 use Rattle.answer_numbers.specs.declared.Numbers.{Numbers}
 
+abbrev pub numbersOf : List ℕ → Numbers
+numbersOf ns = record { numbers = ns ++ replicate (12 - length ns) 0; count = length ns }
+
+-- what any such struct stands for
 abbrev pub numbersIn : Numbers → List ℕ
 numbersIn n = take (n .count) (n .numbers)

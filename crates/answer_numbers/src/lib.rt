@@ -11,7 +11,7 @@ ghost use Rattle.line_map.specs.Answers.{lineFrom};
 ghost use Rattle.task_table.specs.Answers.{taskFrom, programFrom};
 ghost use Rattle.type_entries.specs.Answers.{sizeFrom};
 ghost use Rattle.type_section.specs.Answers.{arrayFrom, fbTypeFrom, fieldFrom, userFbFrom};
-ghost use Rattle.answer_numbers.specs.Answers.{numbersIn};
+ghost use Rattle.answer_numbers.specs.Answers.{numbersOf};
 ghost use Rattle.answer_numbers.specs.Fields.{refusalNumbers, answered};
 ghost use Rattle.answer_numbers.specs.Fields.{bitsOf, keptNumbers, arrayNumbers, constantNumbers, enumerationNumbers, fbTypeNumbers, fieldNumbers, functionNameNumbers, functionNumbers, layoutNumbers, lineNumbers, partNumbers, programNumbers, signedNumbers, sourceNumbers, taskNumbers, userFbNumbers, valueNumbers, variableNumbers};
 use base::error::ContainerError;
@@ -39,14 +39,14 @@ use type_section::FbTypeAnswer;
 use type_section::FieldAnswer;
 use type_section::UserFbAnswer;
 
-// The first `count` of these numbers.
+// The first `count` of these numbers; zeros stand behind them.
 pub struct Numbers {
     pub numbers: [u64; 12],
     pub count: usize,
 }
 
 pub fn refusal(e: ContainerError) -> Numbers
-    ensures { λ r. ⌜ numbersIn r ≡ refusalNumbers (faultOf e) ⌝ }
+    ensures { λ r. ⌜ r ≡ numbersOf (refusalNumbers (faultOf e)) ⌝ }
 {
     let number = e.number() as u64;
     let values = e.values();
@@ -89,7 +89,7 @@ fn eight(low: u32, high: u32) -> u64
 }
 
 pub fn task_numbers(answer: TaskAnswer) -> Numbers
-    ensures { λ r. ⌜ numbersIn r ≡ answered taskNumbers (taskFrom answer) ⌝ }
+    ensures { λ r. ⌜ r ≡ numbersOf (answered taskNumbers (taskFrom answer)) ⌝ }
 {
     match answer {
         TaskAnswer::Refused(e) => refusal(e),
@@ -118,7 +118,7 @@ pub fn task_numbers(answer: TaskAnswer) -> Numbers
 }
 
 pub fn program_numbers(answer: ProgramAnswer) -> Numbers
-    ensures { λ r. ⌜ numbersIn r ≡ answered programNumbers (programFrom answer) ⌝ }
+    ensures { λ r. ⌜ r ≡ numbersOf (answered programNumbers (programFrom answer)) ⌝ }
 {
     match answer {
         ProgramAnswer::Refused(e) => refusal(e),
@@ -143,7 +143,7 @@ pub fn program_numbers(answer: ProgramAnswer) -> Numbers
 }
 
 pub fn fb_type_numbers(answer: FbTypeAnswer) -> Numbers
-    ensures { λ r. ⌜ numbersIn r ≡ answered fbTypeNumbers (fbTypeFrom answer) ⌝ }
+    ensures { λ r. ⌜ r ≡ numbersOf (answered fbTypeNumbers (fbTypeFrom answer)) ⌝ }
 {
     match answer {
         FbTypeAnswer::Refused(e) => refusal(e),
@@ -168,7 +168,7 @@ pub fn fb_type_numbers(answer: FbTypeAnswer) -> Numbers
 }
 
 pub fn field_numbers(answer: FieldAnswer) -> Numbers
-    ensures { λ r. ⌜ numbersIn r ≡ answered fieldNumbers (fieldFrom answer) ⌝ }
+    ensures { λ r. ⌜ r ≡ numbersOf (answered fieldNumbers (fieldFrom answer)) ⌝ }
 {
     match answer {
         FieldAnswer::Refused(e) => refusal(e),
@@ -184,7 +184,7 @@ pub fn field_numbers(answer: FieldAnswer) -> Numbers
 }
 
 pub fn array_numbers(answer: ArrayAnswer) -> Numbers
-    ensures { λ r. ⌜ numbersIn r ≡ answered arrayNumbers (arrayFrom answer) ⌝ }
+    ensures { λ r. ⌜ r ≡ numbersOf (answered arrayNumbers (arrayFrom answer)) ⌝ }
 {
     match answer {
         ArrayAnswer::Refused(e) => refusal(e),
@@ -209,7 +209,7 @@ pub fn array_numbers(answer: ArrayAnswer) -> Numbers
 }
 
 pub fn size_numbers(answer: SizeAnswer) -> Numbers
-    ensures { λ r. ⌜ numbersIn r ≡ answered valueNumbers (sizeFrom answer) ⌝ }
+    ensures { λ r. ⌜ r ≡ numbersOf (answered valueNumbers (sizeFrom answer)) ⌝ }
 {
     match answer {
         SizeAnswer::Refused(e) => refusal(e),
@@ -221,7 +221,7 @@ pub fn size_numbers(answer: SizeAnswer) -> Numbers
 }
 
 pub fn user_fb_numbers(answer: UserFbAnswer) -> Numbers
-    ensures { λ r. ⌜ numbersIn r ≡ answered userFbNumbers (userFbFrom answer) ⌝ }
+    ensures { λ r. ⌜ r ≡ numbersOf (answered userFbNumbers (userFbFrom answer)) ⌝ }
 {
     match answer {
         UserFbAnswer::Refused(e) => refusal(e),
@@ -246,7 +246,7 @@ pub fn user_fb_numbers(answer: UserFbAnswer) -> Numbers
 }
 
 pub fn i32_numbers(answer: I32Answer) -> Numbers
-    ensures { λ r. ⌜ numbersIn r ≡ answered signedNumbers (i32From answer) ⌝ }
+    ensures { λ r. ⌜ r ≡ numbersOf (answered signedNumbers (i32From answer)) ⌝ }
 {
     match answer {
         I32Answer::Refused(e) => refusal(e),
@@ -262,7 +262,7 @@ pub fn i32_numbers(answer: I32Answer) -> Numbers
 }
 
 pub fn u32_numbers(answer: U32Answer) -> Numbers
-    ensures { λ r. ⌜ numbersIn r ≡ answered valueNumbers (u32From answer) ⌝ }
+    ensures { λ r. ⌜ r ≡ numbersOf (answered valueNumbers (u32From answer)) ⌝ }
 {
     match answer {
         U32Answer::Refused(e) => refusal(e),
@@ -274,7 +274,7 @@ pub fn u32_numbers(answer: U32Answer) -> Numbers
 }
 
 pub fn i64_numbers(answer: I64Answer) -> Numbers
-    ensures { λ r. ⌜ numbersIn r ≡ answered signedNumbers (i64From answer) ⌝ }
+    ensures { λ r. ⌜ r ≡ numbersOf (answered signedNumbers (i64From answer)) ⌝ }
 {
     match answer {
         I64Answer::Refused(e) => refusal(e),
@@ -289,7 +289,7 @@ pub fn i64_numbers(answer: I64Answer) -> Numbers
 }
 
 pub fn u64_numbers(answer: U64Answer) -> Numbers
-    ensures { λ r. ⌜ numbersIn r ≡ answered valueNumbers (u64From answer) ⌝ }
+    ensures { λ r. ⌜ r ≡ numbersOf (answered valueNumbers (u64From answer)) ⌝ }
 {
     match answer {
         U64Answer::Refused(e) => refusal(e),
@@ -301,7 +301,7 @@ pub fn u64_numbers(answer: U64Answer) -> Numbers
 }
 
 pub fn part_numbers(answer: PartAnswer) -> Numbers
-    ensures { λ r. ⌜ numbersIn r ≡ answered partNumbers (partFrom answer) ⌝ }
+    ensures { λ r. ⌜ r ≡ numbersOf (answered partNumbers (partFrom answer)) ⌝ }
 {
     match answer {
         PartAnswer::Refused(e) => refusal(e),
@@ -313,7 +313,7 @@ pub fn part_numbers(answer: PartAnswer) -> Numbers
 }
 
 pub fn width_numbers(answer: WidthAnswer) -> Numbers
-    ensures { λ r. ⌜ numbersIn r ≡ answered valueNumbers (widthFrom answer) ⌝ }
+    ensures { λ r. ⌜ r ≡ numbersOf (answered valueNumbers (widthFrom answer)) ⌝ }
 {
     match answer {
         WidthAnswer::Refused(e) => refusal(e),
@@ -328,7 +328,7 @@ pub fn width_numbers(answer: WidthAnswer) -> Numbers
 }
 
 pub fn function_numbers(answer: FuncAnswer) -> Numbers
-    ensures { λ r. ⌜ numbersIn r ≡ answered functionNumbers (funcFrom answer) ⌝ }
+    ensures { λ r. ⌜ r ≡ numbersOf (answered functionNumbers (funcFrom answer)) ⌝ }
 {
     match answer {
         FuncAnswer::Refused(e) => refusal(e),
@@ -353,7 +353,7 @@ pub fn function_numbers(answer: FuncAnswer) -> Numbers
 }
 
 pub fn line_numbers(answer: LineAnswer) -> Numbers
-    ensures { λ r. ⌜ numbersIn r ≡ answered lineNumbers (lineFrom answer) ⌝ }
+    ensures { λ r. ⌜ r ≡ numbersOf (answered lineNumbers (lineFrom answer)) ⌝ }
 {
     match answer {
         LineAnswer::Refused(e) => refusal(e),
@@ -378,7 +378,7 @@ pub fn line_numbers(answer: LineAnswer) -> Numbers
 }
 
 pub fn variable_numbers(answer: VariableAnswer) -> Numbers
-    ensures { λ r. ⌜ numbersIn r ≡ answered variableNumbers (variableFrom answer) ⌝ }
+    ensures { λ r. ⌜ r ≡ numbersOf (answered variableNumbers (variableFrom answer)) ⌝ }
 {
     match answer {
         VariableAnswer::Refused(e) => refusal(e),
@@ -403,7 +403,7 @@ pub fn variable_numbers(answer: VariableAnswer) -> Numbers
 }
 
 pub fn function_name_numbers(answer: FunctionNameAnswer) -> Numbers
-    ensures { λ r. ⌜ numbersIn r ≡ answered functionNameNumbers (functionNameFrom answer) ⌝ }
+    ensures { λ r. ⌜ r ≡ numbersOf (answered functionNameNumbers (functionNameFrom answer)) ⌝ }
 {
     match answer {
         FunctionNameAnswer::Refused(e) => refusal(e),
@@ -428,7 +428,7 @@ pub fn function_name_numbers(answer: FunctionNameAnswer) -> Numbers
 }
 
 pub fn layout_numbers(answer: LayoutAnswer) -> Numbers
-    ensures { λ r. ⌜ numbersIn r ≡ answered layoutNumbers (layoutFrom answer) ⌝ }
+    ensures { λ r. ⌜ r ≡ numbersOf (answered layoutNumbers (layoutFrom answer)) ⌝ }
 {
     match answer {
         LayoutAnswer::Refused(e) => refusal(e),
@@ -453,7 +453,7 @@ pub fn layout_numbers(answer: LayoutAnswer) -> Numbers
 }
 
 pub fn source_numbers(answer: SourceAnswer) -> Numbers
-    ensures { λ r. ⌜ numbersIn r ≡ answered sourceNumbers (sourceFrom answer) ⌝ }
+    ensures { λ r. ⌜ r ≡ numbersOf (answered sourceNumbers (sourceFrom answer)) ⌝ }
 {
     match answer {
         SourceAnswer::Refused(e) => refusal(e),
@@ -485,7 +485,7 @@ pub fn source_numbers(answer: SourceAnswer) -> Numbers
 }
 
 pub fn enumeration_numbers(answer: EnumerationAnswer) -> Numbers
-    ensures { λ r. ⌜ numbersIn r ≡ answered (λ e. enumerationNumbers (e .head)) (enumerationFrom answer) ⌝ }
+    ensures { λ r. ⌜ r ≡ numbersOf (answered (λ e. enumerationNumbers (e .head)) (enumerationFrom answer)) ⌝ }
 {
     match answer {
         EnumerationAnswer::Refused(e) => refusal(e),
@@ -510,7 +510,7 @@ pub fn enumeration_numbers(answer: EnumerationAnswer) -> Numbers
 }
 
 pub fn value_numbers(answer: ValueAnswer) -> Numbers
-    ensures { λ r. ⌜ numbersIn r ≡ answered partNumbers (valueFrom answer) ⌝ }
+    ensures { λ r. ⌜ r ≡ numbersOf (answered partNumbers (valueFrom answer)) ⌝ }
 {
     match answer {
         ValueAnswer::Refused(e) => refusal(e),
@@ -523,7 +523,7 @@ pub fn value_numbers(answer: ValueAnswer) -> Numbers
 
 // A constant's type and what is kept of it.
 fn kept_numbers(kind: u64, kept: Kept) -> Numbers
-    ensures { λ r. ⌜ numbersIn r ≡ 0 ∷ kind ∷ keptNumbers (keptIn kept) ⌝ }
+    ensures { λ r. ⌜ r ≡ numbersOf (0 ∷ kind ∷ keptNumbers (keptIn kept)) ⌝ }
 {
     match kept {
         Kept::Number(n) => Numbers {
@@ -551,7 +551,7 @@ fn kept_numbers(kind: u64, kept: Kept) -> Numbers
 }
 
 pub fn constant_numbers(answer: ConstAnswer) -> Numbers
-    ensures { λ r. ⌜ numbersIn r ≡ answered constantNumbers (constFrom answer) ⌝ }
+    ensures { λ r. ⌜ r ≡ numbersOf (answered constantNumbers (constFrom answer)) ⌝ }
 {
     match answer {
         ConstAnswer::Refused(e) => refusal(e),

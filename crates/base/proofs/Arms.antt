@@ -12,7 +12,7 @@ use denote.Enum.Declared.{tagOf}
 use Rattle.reading.specs.Fault.{Fault}
 use Rattle.reading.specs.Answer.{refused, found, _>>_, need}
 use Rattle.format.specs.Constants.{isNumber}
-use Rattle.base.specs.Error.{faultOf, refusalValues}
+use Rattle.base.specs.Error.{faultOf, keptValues, valuesOf}
 use Rattle.base.specs.Small.{constTypeNumber, widthOfType}
 use Rattle.base.specs.declared.const_type.ConstType.{ConstType}
 use Rattle.base.specs.declared.const_type.ConstType.the-variants as const
@@ -55,7 +55,7 @@ no-string const.WStr h = absurd (miss numbers 7 tt h)
 abbrev plain : List ℕ
 plain = 0 ∷ 1 ∷ 2 ∷ 3 ∷ 4 ∷ 9 ∷ 11 ∷ 12 ∷ 13 ∷ 14 ∷ 15 ∷ 16 ∷ 17 ∷ []
 
-pub no-values : (x : ContainerError) → OneOf plain (tagOf error-type x) → [] ≡ refusalValues (faultOf x)
+pub no-values : (x : ContainerError) → OneOf plain (tagOf error-type x) → keptValues [] ≡ valuesOf (faultOf x)
 no-values e.ShortInput h = refl
 no-values e.InvalidMagic h = refl
 no-values e.UnsupportedVersion h = refl

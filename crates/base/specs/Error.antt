@@ -1,7 +1,6 @@
 -- The code's refusals, each as the row of document 01's table that it is.
 use Prim.Native.Nat.{ℕ}
 use mathlib.Core.List.{List, [], _∷_}
-use lib.ListN.{take}
 use Rattle.reading.specs.Fault.{Fault, refusal, badText, shortInput}
 use Rattle.format.specs.Faults.{invalidMagic, unsupportedVersion, sectionSizeMismatch, contentHashMismatch, invalidTaskType, invalidFieldType, invalidArrayStride, invalidConstantType, tooLong, invalidConstantIndex, noFunction, noLine, unsortedMap, noDebug, noArray, sizeOverflow, noEntry}
 use Rattle.base.specs.declared.error.ContainerError.{ContainerError}
@@ -37,6 +36,11 @@ abbrev pub refusalValues : Fault → List ℕ
 refusalValues (refusal n vs) = vs
 refusalValues (badText behind) = []
 
--- the values of the code as a list
-abbrev pub listed : Values → List ℕ
-listed v = take (v .count) (v .first ∷ v .second ∷ [])
+-- the values as the code keeps them: how many they are, then each of them, and zeros behind them. No refusal names more than two
+abbrev pub keptValues : List ℕ → Values
+keptValues [] = record { count = 0; first = 0; second = 0 }
+keptValues (v ∷ []) = record { count = 1; first = v; second = 0 }
+keptValues (v ∷ w ∷ vs) = record { count = 2; first = v; second = w }
+
+abbrev pub valuesOf : Fault → Values
+valuesOf f = keptValues (refusalValues f)

@@ -25,6 +25,13 @@ impl CharWidth {
         }
     }
 
+    // The same as a `usize`.
+    pub fn as_usize(self) -> usize
+        ensures { λ r. ⌜ r ≡ byteWidth self ⌝ }
+    {
+        self.byte_width() as usize
+    }
+
     pub fn is_wide(self) -> bool
         ensures { λ r. ⌜ r ≡ isWide self ⌝ }
     {

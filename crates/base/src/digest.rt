@@ -8,6 +8,12 @@ ghost use Rattle.format.specs.Integrity.{noHash};
 ghost use Rattle.reading.specs.Numbers.{wordBytes};
 ghost use Rattle.base.specs.Digest.{digestBytes};
 
+// The bytes of a digest.
+pub const HASH_LEN: usize = 32;
+
+// All zero: no digest is given.
+pub const NO_HASH: Digest = Digest(0, 0, 0, 0, 0, 0, 0, 0);
+
 pub struct Digest(
     pub u32,
     pub u32,
@@ -44,11 +50,11 @@ impl Digest {
         Digest(w[0], w[1], w[2], w[3], w[4], w[5], w[6], w[7])
     }
 
-    // All zero: no digest is given.
+    // Whether no digest is given.
     pub fn is_zero(self) -> bool
         ensures { λ r. ⌜ r ≡ noHash (digestBytes self) ⌝ }
     {
-        self.equals(Digest(0, 0, 0, 0, 0, 0, 0, 0))
+        self.equals(NO_HASH)
     }
 
     pub fn equals(self, other: Digest) -> bool

@@ -1,7 +1,8 @@
 // The refusals of document 01's table.
 use crate::id_types::ConstantIndex;
 ghost use mathlib.Core.Path.{_≡_};
-ghost use Rattle.base.specs.Error.{faultOf, refusalNumber, refusalValues, listed};
+ghost use mathlib.Core.List.{[], _∷_};
+ghost use Rattle.base.specs.Error.{faultOf, refusalNumber, keptValues, valuesOf};
 
 pub enum ContainerError {
     ShortInput,
@@ -27,7 +28,7 @@ pub enum ContainerError {
     NoEntry,
 }
 
-// The values that a refusal names: `count` of them, at most two.
+// The values that a refusal names: `count` of them, at most two, and zeros behind them.
 pub struct Values {
     pub count: usize,
     pub first: u32,
@@ -66,7 +67,7 @@ impl ContainerError {
 
     // The values that document 01 names for the refusal.
     pub fn values(self) -> Values
-        ensures { λ r. ⌜ listed r ≡ refusalValues (faultOf self) ⌝ }
+        ensures { λ r. ⌜ r ≡ valuesOf (faultOf self) ⌝ }
     {
         match self {
             ContainerError::InvalidTaskType(kind) => Values::one(kind as u32),
@@ -92,7 +93,7 @@ impl ContainerError {
 
 impl Values {
     fn one(value: u32) -> Values
-        ensures { λ r. ⌜ (r .count ≡ 1) × (r .first ≡ value) ⌝ }
+        ensures { λ r. ⌜ r ≡ keptValues (value ∷ []) ⌝ }
     {
         Values {
             count: 1,

@@ -10,6 +10,8 @@ use Rattle.format.specs.Parts.{hashLimit}
 use Rattle.base.specs.Error.{faultOf}
 use Rattle.base.specs.Digest.{digestBytes}
 use Rattle.hasher.specs.Hash.{hashWords}
+use Rattle.hasher.specs.State.{fill, finished}
+use Rattle.hasher.specs.declared.Hasher.{Hasher}
 use Rattle.blake3.specs.declared.HashAnswer.{HashAnswer}
 use Rattle.blake3.specs.declared.HashAnswer.the-variants as answer
 
@@ -23,3 +25,7 @@ hashFrom (answer.Digest d) = found (digestBytes d)
 
 unfoldable pub hashAsked : List ℕ → Got (List ℕ)
 hashAsked bs = need (leb (length bs) hashLimit) tooLong >> found (blake3 bs)
+
+-- the digest of what a state has taken in, refused in the same way
+unfoldable pub finishAsked : Hasher → Got (List ℕ)
+finishAsked h = need (leb (fill h) hashLimit) tooLong >> found (wordBytes (finished h))

@@ -1,1 +1,2 @@
 pub mod Blake3
+pub mod Laws

@@ -1,12 +1,11 @@
 // BLAKE3 of a whole input, and the hash state lent to the feeding step and altered there.
 ghost use mathlib.Core.Path.{_≡_};
-ghost use Rattle.reading.specs.Numbers.{wordBytes};
-ghost use Rattle.base.specs.Digest.{digestBytes};
-ghost use Rattle.hasher.specs.State.{fed, finished};
-ghost use Rattle.blake3.specs.Blake3.{hashFrom, hashAsked};
+ghost use Rattle.hasher.specs.State.{start, fed};
+ghost use Rattle.blake3.specs.Blake3.{hashFrom, hashAsked, finishAsked};
+ghost use Rattle.blake3.specs.Laws.{Laws};
 use base::digest::Digest;
 use base::error::ContainerError;
-use hasher::Hasher;
+pub use hasher::Hasher;
 use hasher::one_chunk;
 
 // The most bytes that the hash is asked for alone.
@@ -29,14 +28,24 @@ pub fn hash(bytes: &[u8]) -> HashAnswer
     if bytes.len() <= CHUNK_LEN {
         return HashAnswer::Digest(Digest::from_words(one_chunk(bytes)));
     }
-    HashAnswer::Digest(finish(Hasher::new().update(bytes)))
+    finish(Hasher::new().update(bytes))
 }
 
-// The digest of what a state was fed.
-pub fn finish(state: Hasher) -> Digest
-    ensures { λ r. ⌜ digestBytes r ≡ wordBytes (finished state) ⌝ }
+// A state that was fed nothing.
+pub fn new() -> Hasher
+    ensures { λ r. ⌜ r ≡ start ⌝ }
 {
-    Digest::from_words(state.finish())
+    Hasher::new()
+}
+
+// The digest of what a state was fed. Over the limit it is refused, in however many parts it was fed.
+pub fn finish(state: Hasher) -> HashAnswer
+    ensures { λ r. ⌜ hashFrom r ≡ finishAsked state ⌝ }
+{
+    if HASH_LIMIT < state.taken() {
+        return HashAnswer::Refused(ContainerError::TooLong);
+    }
+    HashAnswer::Digest(Digest::from_words(state.finish()))
 }
 
 // As the Rust's `update`: the state is lent and altered.
@@ -46,12 +55,16 @@ pub fn update(state: &mut Hasher, bytes: &[u8])
     *state = (*state).update(bytes);
 }
 
-// A state fed with two parts, one behind the other. Its parameters are plain, so whoever calls it needs no walk by hand.
-pub fn fed_with(state: Hasher, first: &[u8], second: &[u8]) -> Hasher
-    ensures { λ r. ⌜ r ≡ fed (fed state (now (first .entry))) (now (second .entry)) ⌝ }
+// A state fed with one more part. Its parameters are plain, so whoever calls it needs no walk by hand.
+pub fn fed_with(state: Hasher, bytes: &[u8]) -> Hasher
+    ensures { λ r. ⌜ r ≡ fed state (now (bytes .entry)) ⌝ }
 {
     let mut h = state;
-    update(&mut h, first);
-    update(&mut h, second);
+    update(&mut h, bytes);
     h
 }
+
+// The claims of `specs/Laws.antt` hold. There is no code: the contract makes the check prove them.
+pub fn laws_hold()
+    ensures { λ _. ⌜ Laws ⌝ }
+{}

@@ -1,36 +1,53 @@
 -- What stands in the caller's buffers afterwards: `before` became `after`, and r was answered.
-use Prim.Native.Nat.{ℕ, _+_, _<_, _≤_}
-use mathlib.Core.List.{List, _++_}
+use Prim.Native.Nat.{ℕ, _≤_}
+use mathlib.Core.Bool.{Bool, _&&_, cond}
+use mathlib.Core.List.{List, [], _++_}
 use mathlib.Core.Path.{_≡_}
+use lib.Dec.{leb}
 use lib.ListN.{length, drop}
 use Rattle.reading.specs.Answer.{Got, refused, found}
-use Rattle.base.specs.Error.{refusalNumber}
-use Rattle.text.specs.Text.{Wrote}
+use Rattle.answer_numbers.specs.Fields.{answered}
 
--- Numbers. With room for 64 the buffer starts with them and r is how many; the rest is as it was. With less, r is 0 and the buffer is as it was
+-- the numbers that a caller lends room for, and the bytes of a digest
 abbrev pub room : ℕ
 room = 64
 
-pub record Said (before ns after : List ℕ) (r : ℕ) : Type 0 where
-  pub put : room ≤ length before → Wrote before 0 ns after r
-  pub left : length before < room → (r ≡ 0) × (after ≡ before)
+abbrev pub digestRoom : ℕ
+digestRoom = 32
 
--- A digest of 32 bytes. A refusal answers its number and leaves the buffer as it was; else the answer is 0, the buffer starts with the digest, and
--- the rest is as it was. With room for less than 32 bytes the answer is 255, which is no refusal's number, and the buffer is as it was
-abbrev pub digestNumber : Got (List ℕ) → ℕ
-digestNumber (refused f) = refusalNumber f
-digestNumber (found d) = 0
+-- a buffer that starts with `ns` now; the rest is as it was
+abbrev pub startsWith : List ℕ → List ℕ → List ℕ
+startsWith ns before = ns ++ drop (length ns) before
+
+-- Numbers. With room for 64 the buffer starts with them and r is how many they are. With less the buffer is as it was and r is 0
+abbrev pub hasRoom : List ℕ → Bool
+hasRoom out = leb room (length out)
+
+pub record Said (before ns after : List ℕ) (r : ℕ) : Type 0 where
+  pub answer : r ≡ cond (hasRoom before) (length ns) 0
+  pub buffer : after ≡ cond (hasRoom before) (startsWith ns before) before
+
+-- A hash. The numbers are 0, or a refusal's number and values; a digest stands in a buffer of its own, which a refusal leaves as it was
+abbrev pub hashNumbers : Got (List ℕ) → List ℕ
+hashNumbers g = answered (λ d. []) g
 
 abbrev pub digestPut : Got (List ℕ) → List ℕ → List ℕ
 digestPut (refused f) before = before
-digestPut (found d) before = d ++ drop 32 before
+digestPut (found d) before = d ++ drop digestRoom before
 
-pub record Told (before : List ℕ) (g : Got (List ℕ)) (after : List ℕ) (r : ℕ) : Type 0 where
-  pub told : 32 ≤ length before → (r ≡ digestNumber g) × (after ≡ digestPut g before)
-  pub left : length before < 32 → (r ≡ 255) × (after ≡ before)
+-- With room for 32 bytes and for 64 numbers both are put, and r is how many numbers there are. With less of either both buffers are as they were and r is 0
+abbrev pub hasBoth : List ℕ → List ℕ → Bool
+hasBoth digest out = leb digestRoom (length digest) && hasRoom out
 
--- A text. Either it starts the buffer, r is its length, and the rest is as it was; or r is 0, and the buffer has no room for the text and for `more` bytes
--- behind it. What the buffer then holds is left free
-pub record Listed (before t : List ℕ) (more : ℕ) (after : List ℕ) (r : ℕ) : Type 0 where
-  pub put : (r ≡ 0 → ⊥) → Wrote before 0 t after r
-  pub none : r ≡ 0 → length before < length t + more
+pub record Hashed (g : Got (List ℕ)) (digest digestAfter out outAfter : List ℕ) (r : ℕ) : Type 0 where
+  pub answer : r ≡ cond (hasBoth digest out) (length (hashNumbers g)) 0
+  pub numbers : outAfter ≡ cond (hasBoth digest out) (startsWith (hashNumbers g) out) out
+  pub bytes : digestAfter ≡ cond (hasBoth digest out) (digestPut g digest) digest
+
+-- A text. If it fits, the buffer starts with it, r is its length, and the rest is as it was; else r is 0, and what the buffer then holds is left free
+abbrev pub listedLength : List ℕ → List ℕ → ℕ
+listedLength before t = cond (leb (length t) (length before)) (length t) 0
+
+pub record Listed (before t after : List ℕ) (r : ℕ) : Type 0 where
+  pub answer : r ≡ listedLength before t
+  pub text : length t ≤ length before → after ≡ startsWith t before

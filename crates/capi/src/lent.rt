@@ -4,11 +4,15 @@ ghost use mathlib.Core.Path.{_≡_};
 ghost use mathlib.Core.List.{_++_};
 ghost use lib.ListN.{length, drop};
 ghost use Rattle.base.specs.Digest.{digestBytes};
+ghost use Rattle.blake3.specs.Blake3.{hashFrom};
 ghost use Rattle.text.specs.Text.{Wrote};
 ghost use Rattle.answer_numbers.specs.Answers.{numbersIn};
-ghost use Rattle.capi.specs.Lent.{Said};
+ghost use Rattle.capi.specs.Lent.{digestRoom, Said, Hashed};
 use answer_numbers::Numbers;
+use answer_numbers::refusal;
 use base::digest::Digest;
+use base::digest::HASH_LEN;
+use blake3::HashAnswer;
 use text::put_bytes;
 
 // The room for numbers that a caller lends.
@@ -46,11 +50,29 @@ pub fn say(out: &mut [u64], answer: Numbers) -> usize
 }
 
 // The 32 bytes of a digest at the start of the buffer.
-pub fn put_digest(out: &mut [u8], digest: Digest) -> usize
-    requires { ⌜ 32 ≤ length (now out) ⌝ }
-    ensures { λ r. ⌜ (r ≡ 0) × (now (out .exit) ≡ digestBytes digest ++ drop 32 (now (out .entry))) ⌝ }
+fn put_digest(out: &mut [u8], digest: Digest)
+    requires { ⌜ digestRoom ≤ length (now out) ⌝ }
+    ensures { λ _. ⌜ now (out .exit) ≡ digestBytes digest ++ drop digestRoom (now (out .entry)) ⌝ }
 {
     let bytes = digest.bytes();
     put_bytes(out, 0, &bytes);
-    0
+}
+
+// A hash: the digest at the start of its buffer and a 0 at the start of the other, or the refusal's numbers there, where there is room for both.
+pub fn put_hash(answer: HashAnswer, digest: &mut [u8], out: &mut [u64]) -> usize
+    ensures { λ r. ⌜ Hashed (hashFrom answer) (now (digest .entry)) (now (digest .exit)) (now (out .entry)) (now (out .exit)) r ⌝ }
+{
+    if digest.len() < HASH_LEN {
+        return 0;
+    }
+    if out.len() < ROOM {
+        return 0;
+    }
+    match answer {
+        HashAnswer::Refused(e) => say(out, refusal(e)),
+        HashAnswer::Digest(d) => {
+            put_digest(digest, d);
+            put(out, 0, &[0])
+        }
+    }
 }

@@ -1,19 +1,18 @@
 // The reader for C and Rust. Each function reads the file anew and keeps nothing; what it answers stands in the buffer that the caller lends.
-// A lookup's answer is numbers: a refusal's number and values, or 0 and the answer's fields. What is answered is how many they are, and a buffer with
-// room for less than 64 gets none.
+// An answer is numbers: a refusal's number and values, or 0 and the answer's fields. What is answered is how many they are, and a buffer with
+// room for less than 64 gets none. A hash stands in a buffer of its own.
 mod lent;
 mod loading;
 mod lookup;
 
 ghost use mathlib.Core.Path.{_≡_};
-ghost use Rattle.blake3.specs.Blake3.{hashAsked};
+ghost use Rattle.blake3.specs.Blake3.{hashFrom, hashAsked};
 ghost use Rattle.file_text.specs.Texts.{fileListing};
-ghost use Rattle.file_text.specs.Texts as texts;
 ghost use Rattle.answer_numbers.specs.Answers.{numbersIn};
 ghost use Rattle.capi.specs.Asked.{asked, loaded, contentHash};
-ghost use Rattle.capi.specs.Lent.{Said, Told, Listed};
+ghost use Rattle.capi.specs.Lent.{Said, Hashed, Listed};
 use crate::lent::ROOM;
-use crate::lent::put_digest;
+use crate::lent::put_hash;
 use crate::lent::say;
 use crate::loading::put_record;
 use crate::lookup::lookup;
@@ -22,13 +21,7 @@ use answer_numbers::refusal;
 use blake3::HashAnswer;
 use container::ContainerAnswer;
 use container::read_from;
-use table_lines::Put;
-
-// The bytes of a digest.
-const DIGEST: usize = 32;
-
-// No refusal's number: the buffer has no room for a digest.
-const NO_ROOM: usize = 255;
+use text::Put;
 
 // A lookup over a file and the record that reading it yields.
 fn ask(file: &[u8], kind: u16, index: u16, second: u16) -> Numbers
@@ -76,38 +69,39 @@ pub extern "C" fn container_line(file: &[u8], function: u16, offset: u16, out: &
     say(out, ask(file, 18, function, offset))
 }
 
-// The content hash of a file that reads.
-#[no_mangle]
-pub extern "C" fn container_content_hash(file: &[u8], out: &mut [u8]) -> usize
-    ensures { λ r. ⌜ Told (now (out .entry)) (contentHash (now (file .entry))) (now (out .exit)) r ⌝ }
+// The content hash in the header of a file that reads.
+fn content_hash(file: &[u8]) -> HashAnswer
+    ensures { λ r. ⌜ hashFrom r ≡ contentHash (now (file .entry)) ⌝ }
 {
-    if out.len() < DIGEST {
-        return NO_ROOM;
-    }
     match read_from(file) {
-        ContainerAnswer::Refused(e) => e.number() as usize,
-        ContainerAnswer::Container(c) => put_digest(out, c.header.content_hash),
+        ContainerAnswer::Refused(e) => HashAnswer::Refused(e),
+        ContainerAnswer::Container(c) => {
+            let digest = c.header.content_hash;
+            HashAnswer::Digest(digest)
+        }
     }
+}
+
+// The same in the buffers: its 32 bytes in one, a 0 or a refusal in the other.
+#[no_mangle]
+pub extern "C" fn container_content_hash(file: &[u8], digest: &mut [u8], out: &mut [u64]) -> usize
+    ensures { λ r. ⌜ Hashed (contentHash (now (file .entry))) (now (digest .entry)) (now (digest .exit)) (now (out .entry)) (now (out .exit)) r ⌝ }
+{
+    put_hash(content_hash(file), digest, out)
 }
 
 // BLAKE3 of any bytes.
 #[no_mangle]
-pub extern "C" fn container_hash(bytes: &[u8], out: &mut [u8]) -> usize
-    ensures { λ r. ⌜ Told (now (out .entry)) (hashAsked (now (bytes .entry))) (now (out .exit)) r ⌝ }
+pub extern "C" fn container_hash(bytes: &[u8], digest: &mut [u8], out: &mut [u64]) -> usize
+    ensures { λ r. ⌜ Hashed (hashAsked (now (bytes .entry))) (now (digest .entry)) (now (digest .exit)) (now (out .entry)) (now (out .exit)) r ⌝ }
 {
-    if out.len() < DIGEST {
-        return NO_ROOM;
-    }
-    match blake3::hash(bytes) {
-        HashAnswer::Refused(e) => e.number() as usize,
-        HashAnswer::Digest(d) => put_digest(out, d),
-    }
+    put_hash(blake3::hash(bytes), digest, out)
 }
 
-// The listing of a file, and its length.
+// The listing of a file, and its length; 0 if it does not fit.
 #[no_mangle]
 pub extern "C" fn container_list(file: &[u8], out: &mut [u8]) -> usize
-    ensures { λ r. ⌜ Listed (now (out .entry)) (fileListing (now (file .entry))) (texts.room (now (file .entry))) (now (out .exit)) r ⌝ }
+    ensures { λ r. ⌜ Listed (now (out .entry)) (fileListing (now (file .entry))) (now (out .exit)) r ⌝ }
 {
     match file_text::put_file(out, 0, file) {
         Put::NoRoom => 0,

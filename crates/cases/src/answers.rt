@@ -6,6 +6,7 @@ use crate::show::value;
 use crate::show::word;
 use base::section::Part;
 use base::section::PartAnswer;
+use base::section::StartAnswer;
 use code_section::FuncAnswer;
 use constant_pool::ConstAnswer;
 use constant_pool::I32Answer;
@@ -17,6 +18,7 @@ use debug_section::EnumerationAnswer;
 use debug_section::FunctionNameAnswer;
 use debug_section::LayoutAnswer;
 use debug_section::SourceAnswer;
+use debug_section::StartsAnswer;
 use debug_section::ValueAnswer;
 use debug_section::VariableAnswer;
 use line_map::LineAnswer;
@@ -27,6 +29,22 @@ use type_section::ArrayAnswer;
 use type_section::FbTypeAnswer;
 use type_section::FieldAnswer;
 use type_section::UserFbAnswer;
+
+// How many entries a walk has to give.
+pub fn start(answer: StartAnswer) {
+    match answer {
+        StartAnswer::Refused(e) => refused(e),
+        StartAnswer::Start(t) => value(t.count as u64),
+    }
+}
+
+// Of the debug tables, how many lines.
+pub fn starts(answer: StartsAnswer) {
+    match answer {
+        StartsAnswer::Refused(e) => refused(e),
+        StartsAnswer::Starts(t) => value(t.lines.count as u64),
+    }
+}
 
 // Its interval.
 pub fn task(answer: TaskAnswer) {

@@ -9,9 +9,24 @@ use container::ContainerAnswer;
 
 pub fn lookup_of(line: &[u8]) -> u8 {
     place_among(
-        b"task program fb_type field array array_size user_fb function bytecode constant i32 u32 i64 u64 f32 f64 str char_width source_line line variable function_name string_layout source_file enumeration enumeration_value",
+        b"task program fb_type field array array_size user_fb function bytecode constant i32 u32 i64 u64 f32 f64 str char_width source_line line variable function_name string_layout source_file enumeration enumeration_value tasks: programs: fb_types: arrays: user_fbs: constants: functions: debug_tables:",
         line,
     )
+}
+
+// Where a walk over a table starts.
+fn walk(c: Container, file: &[u8], ask: u8) {
+    match ask {
+        26 => answers::start(c.tasks(file)),
+        27 => answers::start(c.programs(file)),
+        28 => answers::start(c.fb_types(file)),
+        29 => answers::start(c.arrays(file)),
+        30 => answers::start(c.user_fbs(file)),
+        31 => answers::start(c.constants(file)),
+        32 => answers::start(c.functions(file)),
+        33 => answers::starts(c.debug_tables(file)),
+        _ => {}
+    }
 }
 
 fn debug(c: Container, file: &[u8], ask: u8, i: u16, j: u16) {
@@ -24,7 +39,7 @@ fn debug(c: Container, file: &[u8], ask: u8, i: u16, j: u16) {
         23 => answers::source_file(file, c.source_file(file, SourceFileId(i))),
         24 => answers::enumeration(file, c.enumeration(file, i)),
         25 => answers::enumeration_value(file, c.enumeration_value(file, i, j)),
-        _ => {}
+        _ => walk(c, file, ask),
     }
 }
 

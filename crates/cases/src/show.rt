@@ -7,8 +7,7 @@ use container::ContainerAnswer;
 use container::MaybeDebug;
 use container::MaybeTypes;
 use libc::STDOUT_FILENO;
-ghost use Prim.Native.Nat.{_≤_};
-ghost use lib.ListN.{length};
+use text::Put;
 
 pub fn word(text: &[u8]) {
     io::write_all(STDOUT_FILENO, text);
@@ -28,19 +27,24 @@ pub fn end() {
     word(b"\n");
 }
 
-// The first n bytes of a text.
-fn start(text: &[u8], n: usize)
-    requires { ⌜ n ≤ length (now text) ⌝ }
-{
-    word(&text[..n]);
+// The text that was put at the start of a page.
+fn start(page: &[u8], put: Put) {
+    match put {
+        Put::NoRoom => {}
+        Put::At(n) => {
+            if n <= page.len() {
+                word(&page[..n]);
+            }
+        }
+    }
 }
 
 // A refusal: the lister's line.
 pub fn refused(e: ContainerError) {
     let mut line = [0u8; 200];
-    let n = listing::put_refused(&mut line, 0, e);
+    let put = listing::put_refused(&mut line, 0, e);
     word(b" ");
-    start(&line, n);
+    start(&line, put);
 }
 
 // A case whose answer is a number.
@@ -64,9 +68,9 @@ fn types(types: MaybeTypes) {
 // The lister's debug line.
 fn debug(debug: MaybeDebug) {
     let mut line = [0u8; 200];
-    let n = listing::put_debug(&mut line, 0, debug);
+    let put = listing::put_debug(&mut line, 0, debug);
     word(b", ");
-    start(&line, n);
+    start(&line, put);
 }
 
 fn loaded(c: Container) {

@@ -10,8 +10,9 @@ use Rattle.reading.specs.Fault.{shortInput}
 use Rattle.reading.specs.Numbers.{leAt}
 use Rattle.reading.specs.Reader.{fault, got, many}
 use Rattle.reading.specs.Answer.{Got, refused, found, _>>=_, itemOf}
+use Rattle.reading.specs.Places.{GivesFrom}
 use Rattle.reading.proofs.Parts.{length-part}
-use Rattle.reading.proofs.Reading.{number-at}
+use Rattle.reading.proofs.Reading.{both, number-at}
 use Rattle.reading.proofs.Width.{Fixed, fixed-give, fixed-bind, fixed-number, fixed-many, fixed-width}
 use Rattle.reading.proofs.Tables.{at-width, at-picked, index-out}
 use Rattle.reading.proofs.Left.{stays-local, walk-is-table}
@@ -19,10 +20,12 @@ use Rattle.format.specs.Faults.{noFunction}
 use Rattle.format.specs.Parts.{part, Place, cut, Inside, byPlace}
 use Rattle.format.specs.Code.{Function, function, Code, codeOf, bytecodeOf}
 use Rattle.format.specs.Lookups.{readAt, functionOf, functionBytesOf}
-use Rattle.format.proofs.Answers.{never}
+use Rattle.format.proofs.Answers.{never, item-got}
 use Rattle.format.proofs.Readers.{local-function}
+use Rattle.code_section.specs.Lookups.{directoryAt, nextFunctionAt}
 use Rattle.code_section.specs.Laws.{Laws}
 use Rattle.base.proofs.FileLookups.{Answered, answered, placed}
+use Rattle.base.proofs.FileWalks.{opened, walk-gives-from}
 
 pub function-at : (s : List ℕ) (at : ℕ) → at + 16 ≤ length s → function (drop at s)
     ≡ got
@@ -126,5 +129,19 @@ module _ (f : List ℕ) (p : Place) (n k : ℕ) (x : Function) where
           placed p (part (x .offset) (x .size) (drop (16 * n) (cut f p))) (p .offset + 16 * n + x .offset) (x .size) (p .size - 16 * n - (x .offset + x .size)) l (omega arith),
         )
 
+-- a walk over the directory in a file
+functions-read : (n : ℕ) (s : List ℕ) (c : Code) (rest : List ℕ) → codeOf n s ≡ got c rest → (x : List ℕ) × (many n function s ≡ got (c .functions) x)
+unfolding codeOf
+functions-read n s c rest e =
+    let k = both (many n function s) e in
+    let z : record { functions = k .item; bytecode = k .middle } ≡ c = cc (k .second) in
+    (k .middle, k .first ∙ ap (λ (v : Code). got (v .functions) (k .middle)) z)
+
+walk-in : (f : List ℕ) (p : Place) (n : ℕ) (c : Code) → readAt f p (codeOf n) ≡ found c → GivesFrom (directoryAt f p n) (nextFunctionAt f p) (c .functions)
+walk-in f p n c e =
+    let g = item-got (codeOf n (cut f p)) c (opened f p (codeOf n) c e .reads) in
+    let d = functions-read n (cut f p) c (g .0) (g .1) in
+    walk-gives-from f p (codeOf n) c e function (stays-local (cut f p) local-function) (λ v. record { at = 0; count = n }) (c .functions) (d .0) (d .1)
+
 pub laws : Laws
-laws = record { walk = λ s n. walk-is-table s function (stays-local s local-function) n (record { at = 0; count = n }) refl }
+laws = record { walk = λ s n. walk-is-table s function (stays-local s local-function) n (record { at = 0; count = n }) refl; walkIn = walk-in }

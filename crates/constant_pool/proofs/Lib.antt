@@ -1,4 +1,5 @@
 pub mod Numbers
+pub mod Bytes
 pub mod Entries
 pub mod Pool
 pub mod Getters

@@ -6,7 +6,7 @@ use mathlib.Core.Path.{_≡_}
 use lib.IntN.{ℤ}
 use Rattle.reading.specs.Numbers.{bytesLe}
 use Rattle.reading.specs.Answer.{Got, refused, found}
-use Rattle.reading.specs.Places.{Step, stops, item, Reads, Next, ends, faulty, entry}
+use Rattle.reading.specs.Places.{Step, stops, item, stepAt, Next, ends, faulty, entry}
 use Rattle.format.specs.Parts.{Place}
 use Rattle.format.specs.Constants as format
 use Rattle.format.specs.Constants.{Constant, number, string, sizeFits}
@@ -58,7 +58,7 @@ headFrom base s at (head.Refused e) = stops (faultOf e)
 headFrom base s at (head.Head t m) = item (record { kind = constTypeNumber t; kept = keptOver base s (constTypeNumber t) (at + 4) (m - (at + 4)) }) m
 
 abbrev pub HeadAs : List ℕ → ℕ → HeadAnswer → Type 0
-HeadAs s at r = (base : ℕ) → Reads (constantOver base s) s at (headFrom base s at r)
+HeadAs s at r = (base : ℕ) → headFrom base s at r ≡ stepAt (constantOver base s) s at
 
 -- the bytes behind the head are as many as the type may have. This follows too, and is said for callers, who take them
 abbrev pub HeadFits : ℕ → HeadAnswer → Type 0

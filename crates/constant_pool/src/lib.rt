@@ -3,8 +3,8 @@ ghost use mathlib.Core.Path.{_≡_};
 ghost use mathlib.Core.Bool.{true};
 ghost use Prim.Native.Nat.{_+_, _^_, _≤_, _<_};
 ghost use lib.ListN.{length};
-ghost use Rattle.reading.specs.Numbers.{le, leAt};
-ghost use Rattle.reading.specs.Places.{Reads, stepOf};
+ghost use Rattle.reading.specs.Numbers.{le, leAt, bytesLe};
+ghost use Rattle.reading.specs.Places.{stepAt, stepOf};
 ghost use Rattle.format.specs.Constants.{sizeFits, signed};
 ghost use Rattle.base.specs.Small.{constTypeNumber};
 ghost use Rattle.base.specs.Section.{placeIn, partFrom, PartWithin, startFrom, bytesOr};
@@ -127,6 +127,21 @@ fn number_at(s: &[u8], at: usize, size: usize) -> u64
     le_of(&s[at..at + size])
 }
 
+// The eight kept bytes of a number, low byte first.
+pub fn number_bytes(n: u64) -> [u8; 8]
+    ensures { λ r. ⌜ r ≡ bytesLe 8 n ⌝ }
+{
+    let mut b = [0u8; 8];
+    let mut left = n;
+    let mut i = 0;
+    while i < 8 {
+        b[i] = (left % 256) as u8;
+        left = left / 256;
+        i += 1;
+    }
+    b
+}
+
 // A number has at most eight bytes.
 fn size_fits(const_type: ConstType, size: usize) -> bool
     ensures { λ r. ⌜ r ≡ sizeFits (constTypeNumber «const_type») size ⌝ }
@@ -179,7 +194,7 @@ fn read_head(s: &[u8], at: usize) -> HeadAnswer
 // The entry at the place `at` of the section `s`, which starts at `base` of the file.
 fn read_entry(s: &[u8], base: usize, at: usize) -> ConstStep
     requires { ⌜ (at ≤ length (now s)) × (base + length (now s) < 2 ^ 64) ⌝ }
-    ensures { λ r. ⌜ Reads (constantOver base (now (s .entry))) (now (s .entry)) at (stepFrom r) × StepEnds (base + length (now (s .entry))) r ⌝ }
+    ensures { λ r. ⌜ (stepFrom r ≡ stepAt (constantOver base (now (s .entry))) (now (s .entry)) at) × StepEnds (base + length (now (s .entry))) r ⌝ }
 {
     match read_head(s, at) {
         HeadAnswer::Refused(e) => ConstStep::Refused(e),

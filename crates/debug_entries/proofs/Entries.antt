@@ -12,10 +12,12 @@ use Rattle.reading.proofs.Reading.{bytes-at, bytes-short, number-at}
 use Rattle.reading.proofs.Width.{Needs, needs-bind, needs-none, Fixed, fixed-bind, fixed-give, fixed-number}
 use Rattle.reading.proofs.Tables.{many-length}
 use Rattle.reading.proofs.Passing.{reads-told, counted-short, counted-as}
+use Rattle.reading.proofs.Local.{local-give, local-bytes, local-number}
+use Rattle.reading.proofs.Left.{Stays, stays-local, stays-bind, stays-counted}
 use Rattle.format.specs.Parts.{Place, Keep}
 use Rattle.format.specs.Debug.{name, path, Variable, variable, functionName, stringLayout, sourceFile, enumeration}
 use Rattle.debug_text.specs.Answers.{keepIn}
-use Rattle.debug_text.proofs.Texts.{name-needs, path-needs, name-ends}
+use Rattle.debug_text.proofs.Texts.{name-needs, path-needs, name-ends, stays-name, stays-path}
 use Rattle.reading.proofs.Made.{goes-made}
 use Rattle.debug_text.proofs.Walks.{onStep, reads-stop, reads-on}
 use Rattle.debug_entries.specs.Answers.{EnumerationEntry, entryOf, enumerationEntry}
@@ -49,6 +51,34 @@ layout-fixed =
     fixed-bind (fixed-number 2) λ v.
     fixed-bind (fixed-number 4) λ o.
     fixed-bind (fixed-number 2) λ l. fixed-give _
+
+-- What each leaves is left of the section
+
+module _ {T : Type 0} (keep : Keep T) (s : List ℕ) where
+  pub stays-variable : Stays s (variable keep)
+  unfolding variable
+  stays-variable =
+      stays-bind s (stays-local s (local-number 2)) λ i.
+      stays-bind s (stays-local s (local-number 2)) λ f.
+      stays-bind s (stays-local s (local-number 1)) λ c.
+      stays-bind s (stays-local s (local-number 1)) λ t.
+      stays-bind s (stays-name keep s) λ n.
+      stays-bind s (stays-name keep s) λ y. stays-local s (local-give _)
+
+  pub stays-function : Stays s (functionName keep)
+  unfolding functionName
+  stays-function = stays-bind s (stays-local s (local-number 2)) λ i. stays-bind s (stays-name keep s) λ n. stays-local s (local-give _)
+
+  pub stays-file : Stays s (sourceFile keep)
+  unfolding sourceFile
+  stays-file = stays-bind s (stays-path keep s) λ l. stays-bind s (stays-local s (local-bytes 32)) λ h. stays-local s (local-give _)
+
+  pub stays-enumeration : Stays s (enumeration keep)
+  unfolding enumeration
+  stays-enumeration = stays-bind s (stays-name keep s) λ n. stays-bind s (stays-counted s (stays-name keep s)) λ vs. stays-local s (local-give _)
+
+pub stays-entry : (base : ℕ) (keep : Keep Place) (s : List ℕ) → Stays s (enumerationEntry base keep)
+stays-entry base keep s = stays-bind s (stays-enumeration keep s) λ e. stays-local s (local-give (entryOf base e))
 
 -- String layouts
 

@@ -15,8 +15,8 @@ use Rattle.reading.specs.Places.{ends, entry, nextOf, stepOf, Holds}
 use Rattle.reading.specs.declared.Table.{Table}
 use Rattle.reading.proofs.Reading.{both, bytes-length}
 use Rattle.reading.proofs.Width.{fixed-bytes, fixed-width}
-use Rattle.reading.proofs.Local.{Local, local-give, local-check, local-bytes, local-number}
-use Rattle.reading.proofs.Left.{LeftOf, left-at, Stays, stays-local, stays-bind, walk-is-table}
+use Rattle.reading.proofs.Local.{Local, local-check, local-bytes, local-number}
+use Rattle.reading.proofs.Left.{LeftOf, left-at, stays-local, walk-is-table}
 use Rattle.reading.proofs.Tables.{counted-stands}
 use Rattle.format.specs.Faults.{noEntry}
 use Rattle.format.specs.Parts.{Place}
@@ -26,7 +26,7 @@ use Rattle.debug_text.specs.Answers.{keepIn}
 use Rattle.debug_text.specs.Picked.{picked}
 use Rattle.debug_text.proofs.Texts.{name-ends}
 use Rattle.debug_text.proofs.Walks.{picked-is}
-use Rattle.debug_entries.specs.Answers.{entryOf, enumerationEntry}
+use Rattle.debug_entries.specs.Answers.{entryOf}
 use Rattle.debug_entries.specs.Laws.{Lies, Walkable, VariableLies, FunctionLies, FileLies, EnumerationLies, Laws}
 
 module _ (whole : List ℕ) where
@@ -173,11 +173,6 @@ module _ (whole : List ℕ) where
           found-is = picked-in;
           step-is = step-in;
         }
-
--- an enumeration read for its head and the table of its values leaves what is left of the section
-pub stays-entry : (base : ℕ) (s : List ℕ) → Stays s (enumerationEntry base (keepIn base s))
-stays-entry base s =
-    stays-bind s (record { leaves = λ x e t w h. gives-enumeration s base .leaves x e t w h .1 }) (λ e. stays-local s (local-give (entryOf base e)))
 
 pub laws : Laws
 laws =

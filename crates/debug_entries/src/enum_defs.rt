@@ -13,7 +13,7 @@ ghost use mathlib.Core.Path.{_≡_};
 ghost use Prim.Native.Nat.{_≤_};
 ghost use lib.ListN.{length};
 ghost use Rattle.reading.specs.Reader.{many};
-ghost use Rattle.reading.specs.Places.{Reads, Goes, stepOf};
+ghost use Rattle.reading.specs.Places.{stepAt, wayAt, stepOf};
 ghost use Rattle.format.specs.Debug.{enumeration};
 ghost use Rattle.debug_text.specs.Answers.{InFile, keepIn, wayOf, nameFrom};
 ghost use Rattle.debug_text.specs.Picked.{picked};
@@ -49,7 +49,7 @@ pub enum EnumDefNext {
 // The entry at `at`.
 pub fn read_enum_def(s: &[u8], base: usize, at: usize) -> EnumDefStep
     requires { ⌜ (at ≤ length (now s)) × InFile base (now s) ⌝ }
-    ensures { λ r. ⌜ Reads (enumerationEntry base (keepIn base (now (s .entry)))) (now (s .entry)) at (enumDefStep r) ⌝ }
+    ensures { λ r. ⌜ enumDefStep r ≡ stepAt (enumerationEntry base (keepIn base (now (s .entry)))) (now (s .entry)) at ⌝ }
 {
     match read_name(s, base, at) {
         TextStep::Fault(e) => EnumDefStep::Fault(e),
@@ -76,7 +76,7 @@ pub fn read_enum_def(s: &[u8], base: usize, at: usize) -> EnumDefStep
 // A walk over the `n` entries from `at` on.
 pub fn skip_enum_defs(s: &[u8], base: usize, at: usize, n: usize) -> DebugWalk
     requires { ⌜ (at ≤ length (now s)) × InFile base (now s) ⌝ }
-    ensures { λ r. ⌜ Goes (many n (enumeration (keepIn base (now (s .entry))))) (now (s .entry)) at (wayOf r) ⌝ }
+    ensures { λ r. ⌜ wayOf r ≡ wayAt (many n (enumeration (keepIn base (now (s .entry))))) (now (s .entry)) at ⌝ }
 {
     let mut p = at;
     let mut i = 0;

@@ -11,7 +11,7 @@ ghost use mathlib.Core.Path.{_≡_};
 ghost use Prim.Native.Nat.{_≤_};
 ghost use lib.ListN.{length};
 ghost use Rattle.reading.specs.Reader.{many};
-ghost use Rattle.reading.specs.Places.{Reads, Goes, stepOf};
+ghost use Rattle.reading.specs.Places.{stepAt, wayAt, stepOf};
 ghost use Rattle.format.specs.Debug.{functionName};
 ghost use Rattle.debug_text.specs.Answers.{InFile, keepIn, wayOf};
 ghost use Rattle.debug_text.specs.Picked.{picked};
@@ -45,7 +45,7 @@ pub enum FuncNameNext {
 // The entry at `at`.
 pub fn read_func_name(s: &[u8], base: usize, at: usize) -> FuncNameStep
     requires { ⌜ (at ≤ length (now s)) × InFile base (now s) ⌝ }
-    ensures { λ r. ⌜ Reads (functionName (keepIn base (now (s .entry)))) (now (s .entry)) at (funcNameStep r) ⌝ }
+    ensures { λ r. ⌜ funcNameStep r ≡ stepAt (functionName (keepIn base (now (s .entry)))) (now (s .entry)) at ⌝ }
 {
     if s.len() - at < 2 {
         return FuncNameStep::Fault(DebugFault::Short);
@@ -60,7 +60,7 @@ pub fn read_func_name(s: &[u8], base: usize, at: usize) -> FuncNameStep
 // A walk over the `n` entries from `at` on.
 pub fn skip_func_names(s: &[u8], base: usize, at: usize, n: usize) -> DebugWalk
     requires { ⌜ (at ≤ length (now s)) × InFile base (now s) ⌝ }
-    ensures { λ r. ⌜ Goes (many n (functionName (keepIn base (now (s .entry))))) (now (s .entry)) at (wayOf r) ⌝ }
+    ensures { λ r. ⌜ wayOf r ≡ wayAt (many n (functionName (keepIn base (now (s .entry))))) (now (s .entry)) at ⌝ }
 {
     let mut p = at;
     let mut i = 0;

@@ -11,7 +11,7 @@ ghost use mathlib.Core.Path.{_≡_};
 ghost use Prim.Native.Nat.{_≤_};
 ghost use lib.ListN.{length};
 ghost use Rattle.reading.specs.Reader.{many};
-ghost use Rattle.reading.specs.Places.{Reads, Goes, stepOf};
+ghost use Rattle.reading.specs.Places.{stepAt, wayAt, stepOf};
 ghost use Rattle.format.specs.Debug.{sourceFile};
 ghost use Rattle.debug_text.specs.Answers.{InFile, keepIn, wayOf};
 ghost use Rattle.debug_text.specs.Picked.{picked};
@@ -47,7 +47,7 @@ pub enum SourceFileNext {
 // The entry at `at`.
 pub fn read_source_file(s: &[u8], base: usize, at: usize) -> SourceFileStep
     requires { ⌜ (at ≤ length (now s)) × InFile base (now s) ⌝ }
-    ensures { λ r. ⌜ Reads (sourceFile (keepIn base (now (s .entry)))) (now (s .entry)) at (sourceFileStep r) ⌝ }
+    ensures { λ r. ⌜ sourceFileStep r ≡ stepAt (sourceFile (keepIn base (now (s .entry)))) (now (s .entry)) at ⌝ }
 {
     match read_path(s, base, at) {
         TextStep::Fault(e) => SourceFileStep::Fault(e),
@@ -67,7 +67,7 @@ pub fn read_source_file(s: &[u8], base: usize, at: usize) -> SourceFileStep
 // A walk over the `n` entries from `at` on.
 pub fn skip_source_files(s: &[u8], base: usize, at: usize, n: usize) -> DebugWalk
     requires { ⌜ (at ≤ length (now s)) × InFile base (now s) ⌝ }
-    ensures { λ r. ⌜ Goes (many n (sourceFile (keepIn base (now (s .entry))))) (now (s .entry)) at (wayOf r) ⌝ }
+    ensures { λ r. ⌜ wayOf r ≡ wayAt (many n (sourceFile (keepIn base (now (s .entry))))) (now (s .entry)) at ⌝ }
 {
     let mut p = at;
     let mut i = 0;

@@ -9,7 +9,7 @@ ghost use mathlib.Core.Path.{_≡_};
 ghost use Prim.Native.Nat.{_≤_};
 ghost use lib.ListN.{length};
 ghost use Rattle.reading.specs.Reader.{many};
-ghost use Rattle.reading.specs.Places.{Reads, Goes, stepOf};
+ghost use Rattle.reading.specs.Places.{stepAt, wayAt, stepOf};
 ghost use Rattle.format.specs.Debug.{stringLayout};
 ghost use Rattle.debug_text.specs.Answers.{wayOf};
 ghost use Rattle.debug_text.specs.Picked.{picked};
@@ -46,7 +46,7 @@ pub enum StringLayoutNext {
 // The entry at `at`.
 pub fn read_string_layout(s: &[u8], at: usize) -> StringLayoutStep
     requires { ⌜ at ≤ length (now s) ⌝ }
-    ensures { λ r. ⌜ Reads stringLayout (now (s .entry)) at (stringLayoutStep r) ⌝ }
+    ensures { λ r. ⌜ stringLayoutStep r ≡ stepAt stringLayout (now (s .entry)) at ⌝ }
 {
     if s.len() - at < STRING_LAYOUT_ENTRY_SIZE {
         return StringLayoutStep::Fault(DebugFault::Short);
@@ -64,7 +64,7 @@ pub fn read_string_layout(s: &[u8], at: usize) -> StringLayoutStep
 // `n` entries from `at` on are passed over by their width.
 pub fn skip_string_layouts(s: &[u8], at: usize, n: usize) -> DebugWalk
     requires { ⌜ at ≤ length (now s) ⌝ }
-    ensures { λ r. ⌜ Goes (many n stringLayout) (now (s .entry)) at (wayOf r) ⌝ }
+    ensures { λ r. ⌜ wayOf r ≡ wayAt (many n stringLayout) (now (s .entry)) at ⌝ }
 {
     if (s.len() - at) / STRING_LAYOUT_ENTRY_SIZE < n {
         return DebugWalk::Fault(DebugFault::Short);

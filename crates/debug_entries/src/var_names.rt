@@ -13,7 +13,7 @@ ghost use mathlib.Core.Path.{_≡_};
 ghost use Prim.Native.Nat.{_≤_};
 ghost use lib.ListN.{length};
 ghost use Rattle.reading.specs.Reader.{many};
-ghost use Rattle.reading.specs.Places.{Reads, Goes, stepOf};
+ghost use Rattle.reading.specs.Places.{stepAt, wayAt, stepOf};
 ghost use Rattle.format.specs.Debug.{variable};
 ghost use Rattle.debug_text.specs.Answers.{InFile, keepIn, wayOf};
 ghost use Rattle.debug_text.specs.Picked.{picked};
@@ -51,7 +51,7 @@ pub enum VarNameNext {
 // The entry at `at`.
 pub fn read_var_name(s: &[u8], base: usize, at: usize) -> VarNameStep
     requires { ⌜ (at ≤ length (now s)) × InFile base (now s) ⌝ }
-    ensures { λ r. ⌜ Reads (variable (keepIn base (now (s .entry)))) (now (s .entry)) at (varNameStep r) ⌝ }
+    ensures { λ r. ⌜ varNameStep r ≡ stepAt (variable (keepIn base (now (s .entry)))) (now (s .entry)) at ⌝ }
 {
     if s.len() - at < 6 {
         return VarNameStep::Fault(DebugFault::Short);
@@ -82,7 +82,7 @@ pub fn read_var_name(s: &[u8], base: usize, at: usize) -> VarNameStep
 // A walk over the `n` entries from `at` on.
 pub fn skip_var_names(s: &[u8], base: usize, at: usize, n: usize) -> DebugWalk
     requires { ⌜ (at ≤ length (now s)) × InFile base (now s) ⌝ }
-    ensures { λ r. ⌜ Goes (many n (variable (keepIn base (now (s .entry))))) (now (s .entry)) at (wayOf r) ⌝ }
+    ensures { λ r. ⌜ wayOf r ≡ wayAt (many n (variable (keepIn base (now (s .entry))))) (now (s .entry)) at ⌝ }
 {
     let mut p = at;
     let mut i = 0;

@@ -8,16 +8,20 @@ use lib.ListN.{length, drop, length-drop}
 use borrow.Author.Tests.{ne-eqb}
 use Rattle.reading.specs.Fault.{Fault, shortInput}
 use Rattle.reading.specs.Numbers.{leAt}
-use Rattle.reading.specs.Reader.{Read, fault, got, Reader, next, give, many, u16}
+use Rattle.reading.specs.Reader.{Read, fault, got, Reader, next, _>>=_, give, many, u16}
 use Rattle.reading.specs.Places.{item, Reads, Way, stopsBy, onTo, Goes}
 use Rattle.reading.specs.declared.Table.{Table}
 use Rattle.reading.proofs.Reading.{never, both, then-then, bytes-at, bytes-short, number-at, number-short}
 use Rattle.reading.proofs.Tables.{many-length}
+use Rattle.reading.proofs.Local.{local-give, local-bytes}
+use Rattle.reading.proofs.Left.{Stays, stays-local, stays-bind, stays-many, stays-counted}
 use Rattle.format.specs.Parts.{Keep}
 use Rattle.format.specs.Debug.{line, onVariable, variable, onFunctionName, functionName, stringLayout, onSourceFile, sourceFile, enumeration}
 use Rattle.format.specs.Debug.{Kind, lines, variables, functions, strings, files, enumerations, unknown, kindOf, payload}
-use Rattle.format.specs.Debug.{Payload, ofLines, ofVariables, ofFunctions, ofStrings, ofFiles, ofEnumerations}
+use Rattle.format.specs.Debug.{Payload, ofLines, ofVariables, ofFunctions, ofStrings, ofFiles, ofEnumerations, skipped}
 use Rattle.format.proofs.Keeping.{onEnumeration, Alike, stops, gives, Same, same-many, same-variable, same-functionName, same-sourceFile, same-enumeration}
+use Rattle.format.proofs.Readers.{local-line, local-stringLayout}
+use Rattle.debug_entries.proofs.Entries.{stays-variable, stays-function, stays-file, stays-enumeration}
 use Rattle.debug_tables.specs.Starts.{nowhere, behindCount, entriesAt, aside, payloadStart, isListed, entriesOf}
 use Rattle.debug_tables.specs.Answers.{kindIn}
 use Rattle.debug_tables.specs.declared.TableKind.{TableKind}
@@ -98,6 +102,32 @@ stand-listed strings at n y x rest h e = stand-in ofStrings at n x (λ es. refl)
 stand-listed files at n y x rest h e = stand-in ofFiles at n x (λ es. refl) (gave (sourceFile aside) ofFiles n y e)
 stand-listed enumerations at n y x rest h e = stand-in ofEnumerations at n x (λ es. refl) (gave (enumeration aside) ofEnumerations n y e)
 stand-listed unknown at n y x rest h e = absurd (let z : _≡_ {A = ℕ} 0 1 = ap (λ b. mathlib.Core.Bool.cond b 1 0) h in omega arith)
+
+-- what the entries of a table leave, and what a payload leaves, is left of the section
+module _ (s : List ℕ) where
+  stays-made : {A B : Type 0} (make : A → B) {r : Reader A} → Stays s r → Stays s (r >>= λ a. give (make a))
+  stays-made make h = stays-bind s h λ a. stays-local s (local-give (make a))
+
+  pub stays-entries : (k : Kind) (n : ℕ) → Stays s (entriesOf k n)
+  stays-entries lines n = stays-made ofLines (stays-many s n (stays-local s local-line))
+  stays-entries variables n = stays-made ofVariables (stays-many s n (stays-variable aside s))
+  stays-entries functions n = stays-made ofFunctions (stays-many s n (stays-function aside s))
+  stays-entries strings n = stays-made ofStrings (stays-many s n (stays-local s local-stringLayout))
+  stays-entries files n = stays-made ofFiles (stays-many s n (stays-file aside s))
+  stays-entries enumerations n = stays-made ofEnumerations (stays-many s n (stays-enumeration aside s))
+  stays-entries unknown n = stays-local s (local-give skipped)
+
+  stays-payload : (k : Kind) (size : ℕ) → Stays s (payload aside k size)
+  stays-payload lines size = stays-made ofLines (stays-counted s (stays-local s local-line))
+  stays-payload variables size = stays-made ofVariables (stays-counted s (stays-variable aside s))
+  stays-payload functions size = stays-made ofFunctions (stays-counted s (stays-function aside s))
+  stays-payload strings size = stays-made ofStrings (stays-counted s (stays-local s local-stringLayout))
+  stays-payload files size = stays-made ofFiles (stays-counted s (stays-file aside s))
+  stays-payload enumerations size = stays-made ofEnumerations (stays-counted s (stays-enumeration aside s))
+  stays-payload unknown size = stays-made (λ b. skipped) (stays-local s (local-bytes size))
+
+  pub stays-start : (k : Kind) (size at : ℕ) → Stays s (payloadStart k size at)
+  stays-start k size at = stays-made (entriesAt at) (stays-payload k size)
 
 -- a listed table: its count, and as many entries
 module _ (k : Kind) (size : ℕ) (s : List ℕ) (at : ℕ) (h : isListed k ≡ true) where

@@ -16,7 +16,7 @@ ghost use Prim.Native.Nat.{_≤_};
 ghost use lib.ListN.{length};
 ghost use Rattle.reading.specs.Reader.{many};
 ghost use Rattle.reading.specs.Answer.{itemOf};
-ghost use Rattle.reading.specs.Places.{Reads, Goes};
+ghost use Rattle.reading.specs.Places.{stepAt, wayAt};
 ghost use Rattle.format.specs.Debug.{line, kindOf};
 ghost use Rattle.format.specs.Load.{debugOf};
 ghost use Rattle.format.specs.Record.{debugCounts};
@@ -119,7 +119,7 @@ fn is_listed(kind: TableKind) -> bool
 // A walk over the `n` lines from `at` on, which all have one width.
 fn skip_lines(s: &[u8], at: usize, n: usize) -> DebugWalk
     requires { ⌜ at ≤ length (now s) ⌝ }
-    ensures { λ r. ⌜ Goes (many n line) (now (s .entry)) at (wayOf r) ⌝ }
+    ensures { λ r. ⌜ wayOf r ≡ wayAt (many n line) (now (s .entry)) at ⌝ }
 {
     if lines_fit(s, at, n) {
         DebugWalk::At(at + LINE_MAP_ENTRY_SIZE * n)
@@ -131,7 +131,7 @@ fn skip_lines(s: &[u8], at: usize, n: usize) -> DebugWalk
 // A walk over the `n` entries of a table of that kind from `at` on.
 fn skip_entries(s: &[u8], at: usize, kind: TableKind, n: usize) -> DebugWalk
     requires { ⌜ at ≤ length (now s) ⌝ }
-    ensures { λ r. ⌜ Goes (entriesOf (kindIn kind) n) (now (s .entry)) at (wayOf r) ⌝ }
+    ensures { λ r. ⌜ wayOf r ≡ wayAt (entriesOf (kindIn kind) n) (now (s .entry)) at ⌝ }
 {
     match kind {
         TableKind::Lines => skip_lines(s, at, n),
@@ -147,7 +147,7 @@ fn skip_entries(s: &[u8], at: usize, kind: TableKind, n: usize) -> DebugWalk
 // The payload at `at`: a listed table is read by its own count, any other is skipped by its row's size.
 fn read_payload(s: &[u8], at: usize, kind: TableKind, size: usize) -> PayloadStep
     requires { ⌜ at ≤ length (now s) ⌝ }
-    ensures { λ r. ⌜ Reads (payloadStart (kindIn kind) size at) (now (s .entry)) at (payloadStep r) ⌝ }
+    ensures { λ r. ⌜ payloadStep r ≡ stepAt (payloadStart (kindIn kind) size at) (now (s .entry)) at ⌝ }
 {
     if is_listed(kind) {
         if s.len() - at < 2 {

@@ -15,6 +15,8 @@ use Rattle.reading.specs.Places.{item, Reads}
 use Rattle.reading.proofs.Parts.{length-part}
 use Rattle.reading.proofs.Reading.{never, both, bytes-at, bytes-short, bytes-length, number-at}
 use Rattle.reading.proofs.Width.{Needs, needs-bind, needs-none, fixed-bytes, fixed-number, fixed-width, width-number}
+use Rattle.reading.proofs.Local.{local-give, local-check, local-bytes, local-number}
+use Rattle.reading.proofs.Left.{Stays, stays-local, stays-bind, stays-left}
 use Rattle.format.specs.Parts.{Place, Keep}
 use Rattle.format.specs.Debug.{text, name, path}
 use Rattle.debug_text.specs.Answers.{keepIn}
@@ -75,6 +77,23 @@ name-ends base s at q m g =
     let d = length-drop m s in
     let i = g .0 in
     omega arith
+
+-- what is left behind a text is left of the section
+module _ {T : Type 0} (keep : Keep T) (s : List ℕ) where
+  pub stays-text : (n : ℕ) → Stays s (text keep n)
+  unfolding text
+  stays-text n =
+      stays-bind s (stays-left s) λ whole.
+      stays-bind s (stays-local s (local-bytes n)) λ t.
+      stays-bind s (stays-local s (local-check (utf8 t) (badText (whole - goodLength t)))) λ u. stays-local s (local-give (keep t (whole - n)))
+
+  pub stays-name : Stays s (name keep)
+  unfolding name
+  stays-name = stays-bind s (stays-local s (local-number 1)) stays-text
+
+  pub stays-path : Stays s (path keep)
+  unfolding path
+  stays-path = stays-bind s (stays-local s (local-number 2)) stays-text
 
 -- a length, and the text behind it
 module _ {T : Type 0} (keep : Keep T) where

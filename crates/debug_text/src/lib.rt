@@ -9,7 +9,7 @@ ghost use mathlib.Core.Path.{_≡_};
 ghost use Prim.Native.Nat.{_≤_};
 ghost use lib.ListN.{length};
 ghost use Rattle.reading.specs.Reader.{many};
-ghost use Rattle.reading.specs.Places.{Reads, Goes, stepOf};
+ghost use Rattle.reading.specs.Places.{stepAt, wayAt, stepOf};
 ghost use Rattle.format.specs.Debug.{text, name, path};
 ghost use Rattle.debug_text.specs.Answers.{InFile, keepIn, wayOf, textStep, nameFrom, nameNext};
 ghost use Rattle.debug_text.specs.Picked.{picked};
@@ -51,7 +51,7 @@ pub enum NameNext {
 // The text of `n` bytes at `at`.
 pub fn read_text(s: &[u8], base: usize, at: usize, n: usize) -> TextStep
     requires { ⌜ (at ≤ length (now s)) × InFile base (now s) ⌝ }
-    ensures { λ r. ⌜ Reads (text (keepIn base (now (s .entry))) n) (now (s .entry)) at (textStep r) ⌝ }
+    ensures { λ r. ⌜ textStep r ≡ stepAt (text (keepIn base (now (s .entry))) n) (now (s .entry)) at ⌝ }
 {
     if s.len() - at < n {
         return TextStep::Fault(DebugFault::Short);
@@ -72,7 +72,7 @@ pub fn read_text(s: &[u8], base: usize, at: usize, n: usize) -> TextStep
 
 pub fn read_name(s: &[u8], base: usize, at: usize) -> TextStep
     requires { ⌜ (at ≤ length (now s)) × InFile base (now s) ⌝ }
-    ensures { λ r. ⌜ Reads (name (keepIn base (now (s .entry)))) (now (s .entry)) at (textStep r) ⌝ }
+    ensures { λ r. ⌜ textStep r ≡ stepAt (name (keepIn base (now (s .entry)))) (now (s .entry)) at ⌝ }
 {
     if s.len() - at < 1 {
         return TextStep::Fault(DebugFault::Short);
@@ -83,7 +83,7 @@ pub fn read_name(s: &[u8], base: usize, at: usize) -> TextStep
 
 pub fn read_path(s: &[u8], base: usize, at: usize) -> TextStep
     requires { ⌜ (at ≤ length (now s)) × InFile base (now s) ⌝ }
-    ensures { λ r. ⌜ Reads (path (keepIn base (now (s .entry)))) (now (s .entry)) at (textStep r) ⌝ }
+    ensures { λ r. ⌜ textStep r ≡ stepAt (path (keepIn base (now (s .entry)))) (now (s .entry)) at ⌝ }
 {
     if s.len() - at < 2 {
         return TextStep::Fault(DebugFault::Short);
@@ -95,7 +95,7 @@ pub fn read_path(s: &[u8], base: usize, at: usize) -> TextStep
 // A walk over the `n` names from `at` on.
 pub fn skip_names(s: &[u8], base: usize, at: usize, n: usize) -> DebugWalk
     requires { ⌜ (at ≤ length (now s)) × InFile base (now s) ⌝ }
-    ensures { λ r. ⌜ Goes (many n (name (keepIn base (now (s .entry))))) (now (s .entry)) at (wayOf r) ⌝ }
+    ensures { λ r. ⌜ wayOf r ≡ wayAt (many n (name (keepIn base (now (s .entry))))) (now (s .entry)) at ⌝ }
 {
     let mut p = at;
     let mut i = 0;

@@ -5,7 +5,7 @@ use Prim.Native.Nat.{ℕ, zero, suc, _≤_}
 use native.Mathlib.Omega.{arith}
 use Rattle.reading.specs.Reader.{Reader}
 use Rattle.reading.specs.Answer.{Got, found, indexed, itemOf}
-use Rattle.reading.specs.Places.{Next, ends, faulty, entry, stepOf, onNext, driven, walked, leftOf, Holds}
+use Rattle.reading.specs.Places.{Next, ends, faulty, entry, stepOf, onNext, driven, Gives, walked, leftOf, Holds}
 use Rattle.reading.specs.declared.Table.{Table}
 use Rattle.reading.proofs.Left.{stays-local, walk-is-table}
 use Rattle.format.specs.Faults.{noEntry}
@@ -17,10 +17,11 @@ use Rattle.base.proofs.FileLookups.{sliced, step-ends, step-count}
 use Rattle.debug_text.specs.Answers.{keepIn}
 use Rattle.reading.proofs.Made.{holds-made}
 use Rattle.debug_entries.specs.Answers.{entryOf, enumerationEntry}
+use Rattle.debug_entries.proofs.Entries.{stays-entry}
 use Rattle.debug_entries.proofs.Giving as entries
 use Rattle.debug_section.specs.Lookups.{debugTablesAt}
 use Rattle.debug_walks.specs.Steps.{noDebugStep, debugStepBy, debugStepAt}
-use Rattle.debug_walks.specs.Laws.{Gives, Walks, Laws}
+use Rattle.debug_walks.specs.Laws.{Walks, Laws}
 use Rattle.debug_section.proofs.Parts.{moved, tables-found}
 
 module _ {A : Type 0} where
@@ -89,7 +90,7 @@ module _ (f : List ℕ) (p : Place) (t : Tables Place) (d : debugTablesAt f p �
         functions = gives functionName (u .functions) (t .functions) (l .functions o b .walk) (s .functions);
         strings = gives (λ keep. stringLayout) (u .strings) (t .strings) (l .strings b .walk) (s .strings);
         files = gives sourceFile (u .files) (t .files) (l .files o b .walk) (s .files);
-        enumerations = gives (enumerationEntry o) (u .enumerations) (map (entryOf o) (t .enumerations)) (λ v. walk-is-table b (enumerationEntry o (keepIn o b)) (entries.stays-entry o b) (v .count) v refl)
+        enumerations = gives (enumerationEntry o) (u .enumerations) (map (entryOf o) (t .enumerations)) (λ v. walk-is-table b (enumerationEntry o (keepIn o b)) (stays-entry o (keepIn o b) b) (v .count) v refl)
             (holds-made (entryOf o) (enumeration (byPlace p)) (cut f p) (u .enumerations) (t .enumerations) (s .enumerations));
         values = values;
       }

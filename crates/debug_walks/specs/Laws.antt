@@ -1,10 +1,9 @@
 -- Walks over the tables in force of a section that reads: the steps of each, driven from where the table starts, give the table.
-use Prim.Native.Nat.{ℕ, _≤_}
+use Prim.Native.Nat.{ℕ}
 use mathlib.Core.List.{List, map}
 use mathlib.Core.Path.{_≡_}
 use Rattle.reading.specs.Answer.{found, indexed}
-use Rattle.reading.specs.Places.{Next, driven}
-use Rattle.reading.specs.declared.Table.{Table}
+use Rattle.reading.specs.Places.{Gives}
 use Rattle.format.specs.Faults.{noEntry}
 use Rattle.format.specs.Parts.{Place, byPlace}
 use Rattle.format.specs.Debug.{line, name, variable, functionName, stringLayout, sourceFile, Enumeration, Tables}
@@ -12,10 +11,6 @@ use Rattle.debug_tables.specs.declared.DebugTables.{DebugTables}
 use Rattle.debug_section.specs.Lookups.{debugTablesAt, startsAt}
 use Rattle.debug_entries.specs.Answers.{entryOf, enumerationEntry}
 use Rattle.debug_walks.specs.Steps.{debugStepAt}
-
--- from a table on, as many steps as it has entries give them, and more steps give no more
-abbrev pub Gives : {A : Type 0} → (Table → Next A) → Table → List A → Type 0
-Gives step t xs = (n : ℕ) → t .count ≤ n → driven step n t ≡ found xs
 
 pub record Walks (f : List ℕ) (p : Place) (t : Tables Place) : Type 0 where
   pub starts : DebugTables

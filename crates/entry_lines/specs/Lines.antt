@@ -1,8 +1,7 @@
 -- The lines of the lister for the entries of tables (document 01, "Mill file M", "Fields: .."): a word for the kind of entry, then its
 -- fields in file order without reserved ones. Numbers are decimal, kept bytes hexadecimal.
-use Prim.Native.Nat.{ℕ, _+_, _*_}
+use Prim.Native.Nat.{ℕ}
 use mathlib.Core.List.{List, [], _∷_}
-use lib.ListN.{length}
 use Rattle.reading.specs.Answer.{Got, refused, found}
 use Rattle.format.specs.Tasks.{Task, Program}
 use Rattle.format.specs.Types.{Field, Array, UserFb}
@@ -11,16 +10,6 @@ use Rattle.format.specs.Code.{Function}
 use Rattle.format.specs.Debug.{Line}
 use Rattle.format.specs.Lookups.{FbTypeHead, byteSize}
 use Rattle.text.specs.Text.{ascii, line, dashLine, bytesLine}
-
--- Room for any line without kept bytes. The longest is a task's: its word of 4 letters, nine numbers of a space and at most 20 digits each, and the
--- line's end make 4 + 9 * 21 + 1 = 194 bytes; 200 is a round number above that
-abbrev pub lineRoom : ℕ
-lineRoom = 200
-
--- Room for a constant's line: its word of 8 letters, two such numbers, a space, two digits for each kept byte and the line's end. A number keeps 8 bytes, a
--- string a part of the file; without that part these are 8 + 2 * 21 + 1 + 16 + 1 = 68 bytes, and 100 is a round number above that
-abbrev pub constantRoom : List ℕ → ℕ
-constantRoom file = 2 * length file + 100
 
 abbrev pub taskLine : Task → List ℕ
 taskLine t =

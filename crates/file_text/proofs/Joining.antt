@@ -1,26 +1,34 @@
--- A text in two parts: one function puts the first, and another puts the second behind it.
-use Prim.Native.Nat.{ℕ, _+_, _≤_, _<_}
-use mathlib.Core.Path.{_≡_, ap, subst}
-use mathlib.Core.List.{List, _++_}
-use native.Mathlib.Omega.{arith}
-use lib.ListN.{length, length-append}
+-- Texts one behind the other, each by a call and its answer `x`.
+use Prim.Native.Nat.{ℕ}
+use mathlib.Core.Path.{_≡_, subst}
+use mathlib.Core.List.{List, [], _∷_, _++_}
+use Rattle.text.specs.Text.{Wrote, Puts}
+use Rattle.text.specs.declared.Put.{Put}
+use Rattle.text.specs.declared.Put.the-variants as put
 use Rattle.text.proofs.Putting.{wrote-then}
-use Rattle.table_lines.specs.declared.Put.{Put}
-use Rattle.table_lines.specs.declared.Put.the-variants as put
-use Rattle.table_lines.specs.Answers.{Puts}
-use Rattle.table_lines.proofs.Walking.{wrote-as}
+use Rattle.text.proofs.Fitting.{puts-at, puts-stop, wrote-puts}
 
-module _ (room : ℕ) (t : List ℕ) (x : Put) (a : List ℕ) (at : ℕ) (s : List ℕ) (k : ℕ) (b : List ℕ) (first : Puts a at s k b x) where
-  -- no room for the first part: none for both
-  pub none-for-first : x ≡ put.NoRoom → k ≤ room → length a < at + length (s ++ t) + room
-  none-for-first e m = let h = subst (Puts a at s k b) e first in omega (arith, length-append s t)
+-- the first text is put, or does not fit
+module _ {b a s : List ℕ} {at : ℕ} {x : Put} (first : Puts b at s a x) where
+  pub first-put : {n : ℕ} → x ≡ put.At n → Wrote b at s a n
+  first-put e = puts-at (subst (Puts b at s a) e first)
 
-  -- the first part is put, and the second's answer is the answer
-  pub then-second : {n : ℕ} (r : Put) (j : ℕ) (c : List ℕ) → x ≡ put.At n → length b ≡ length a → Puts b n t j c r → j ≤ room → Puts a at (s ++ t) room c r
-  then-second put.NoRoom j c e l h m = let n = subst (Puts a at s k b) e first .next in omega (arith, length-append s t)
-  then-second (put.At n) j c e l h m = wrote-then (subst (Puts a at s k b) e first) h
+  pub first-full : x ≡ put.NoRoom → Puts b at s a put.NoRoom
+  first-full e = subst (Puts b at s a) e first
 
--- the same text, with more room asked for
-pub puts-as : (room : ℕ) {t u : List ℕ} (r : Put) (a : List ℕ) (at k : ℕ) (c : List ℕ) → t ≡ u → Puts a at t k c r → k ≤ room → Puts a at u room c r
-puts-as room put.NoRoom a at k c e h m = omega (arith, ap length e)
-puts-as room (put.At n) a at k c e h m = wrote-as e h
+-- and so is the next one
+module _ {b a c s t : List ℕ} {at n : ℕ} {x : Put} (so-far : Wrote b at s a n) (next : Puts a n t c x) where
+  pub next-put : {m : ℕ} → x ≡ put.At m → Wrote b at (s ++ t) c m
+  next-put e = wrote-then so-far (first-put next e)
+
+  pub next-full : x ≡ put.NoRoom → Puts b at (s ++ t) c put.NoRoom
+  next-full e = wrote-puts so-far (first-full next e)
+
+-- the texts behind one that does not fit
+abbrev behind : List ℕ → List (List ℕ) → List ℕ
+behind s [] = s
+behind s (t ∷ ts) = behind (s ++ t) ts
+
+pub full : {b a s : List ℕ} {at : ℕ} (ts : List (List ℕ)) → Puts b at s a put.NoRoom → Puts b at (behind s ts) a put.NoRoom
+full [] p = p
+full (t ∷ ts) p = full ts (puts-stop t p)

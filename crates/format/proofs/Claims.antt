@@ -7,6 +7,7 @@ use Rattle.format.proofs.OwnRecord.{own-record}
 use Rattle.format.proofs.RunSide.{premises, run-side-independence, run-side-of-records}
 use Rattle.format.proofs.UnknownTables.{unknown-tables, unknown-tables-of-records}
 use Rattle.format.proofs.Layouts.{layouts, mill-counts, hash-limit}
+use Rattle.format.proofs.Indexing.{indexing}
 use Rattle.format.proofs.LineFound.{line-found}
 use Rattle.format.proofs.Examples.{first-half-speaks, types-premise-needed, empty-code-place-needed, content-hash-needed, second-half-speaks, cases, wrong-turns}
 
@@ -17,6 +18,7 @@ claims-hold hash =
       order = order;
       places-hold = places-hold;
       own-record = own-record hash;
+      indexing = indexing;
       line-found = line-found;
       premises = premises;
       run-side-independence = run-side-independence hash;

@@ -10,6 +10,7 @@ pub mod RunSide
 pub mod Order
 pub mod UnknownTables
 pub mod Refusals
+pub mod Indexing
 pub mod LineFound
 pub mod Layouts
 pub mod Claims

@@ -1,12 +1,13 @@
 -- Every refusal is of document 01's table.
 use Prim.Native.Nat.{ℕ, zero, suc, _+_, _*_}
-use mathlib.Core.Path.{_≡_, refl}
+use mathlib.Core.Path.{_≡_, refl, ap}
 use mathlib.Core.Bool.{Bool, true, false, cond}
 use mathlib.Core.List.{List, [], _∷_}
 use mathlib.Core.Option.{Option, none, some}
+use native.Mathlib.Omega.{arith}
 use lib.Dec.{leb, ltb, eqb}
 use lib.ListN.{length, take, drop}
-use borrow.Author.Tests.{leb-false}
+use borrow.Author.Tests.{leb-true, leb-false}
 use Rattle.reading.specs.Fault.{Fault, shortInput}
 use Rattle.reading.specs.Numbers.{leAt}
 use Rattle.reading.specs.Reader.{Read, fault, got, Reader, next, _>>=_, give, check, bytes, number, many, counted, countedOrNone}
@@ -190,6 +191,11 @@ each-types =
     each-then (counted array) _ (each-counted array each-array) λ ns.
     each-then (countedOrNone userFb) _ each-userFbs λ us s. tt
 
+-- a size that does not fit is a number's, and above 8
+too-large : (kind size : ℕ) (number : Bool) → leb kind 5 ≡ number → cond number (leb size 8) true ≡ false → OfSections (invalidConstantType kind)
+too-large kind size true e h = of.constant-size kind size (leb-true kind 5 e) (leb-false size 8 h)
+too-large kind size false e h = absurd (let z : _≡_ {A = ℕ} 0 1 = ap (λ (b : Bool). cond b 0 1) h in omega arith)
+
 module _ {T : Type 0} (keep : Keep T) where
   each-constant : Each (constant keep)
   unfolding constant
@@ -197,8 +203,8 @@ module _ {T : Type 0} (keep : Keep T) where
       number-then 1 _ λ k.
       number-then 1 _ λ x.
       number-then 2 _ λ n.
-      each-then (check (leb k 7) (invalidConstantType k)) _ (each-check (leb k 7) (invalidConstantType k) (λ z. of.constant-type k)) λ u.
-      each-then (check (sizeFits k n) (invalidConstantType k)) _ (each-check (sizeFits k n) (invalidConstantType k) (λ z. of.constant-type k)) λ v.
+      each-then (check (leb k 7) (invalidConstantType k)) _ (each-check (leb k 7) (invalidConstantType k) (λ e. of.constant-type k (leb-false k 7 e))) λ u.
+      each-then (check (sizeFits k n) (invalidConstantType k)) _ (each-check (sizeFits k n) (invalidConstantType k) (too-large k n (leb k 5) refl)) λ v.
       each-then (bytes n) _ (each-bytes n) λ b s. tt
 
   each-constants : Each (constants keep)
@@ -320,17 +326,17 @@ module _ {T : Type 0} where
 
   number-only : (kind width stored : ℕ) (k : Kept T) → Only OfLookups (numberIn kind width stored k)
   number-only kind width stored (kept.number b) =
-      only-cond OfLookups (eqb stored kind) (found _) (refused (invalidConstantType stored)) tt (OfLookups.section (of.constant-type stored))
-  number-only kind width stored (kept.string t) = OfLookups.section (of.constant-type stored)
+      only-cond OfLookups (eqb stored kind) (found _) (refused (invalidConstantType stored)) tt (of.other-type stored)
+  number-only kind width stored (kept.string t) = of.other-type stored
 
   string-only : (stored : ℕ) (k : Kept T) → Only OfLookups (stringIn stored k)
-  string-only stored (kept.number b) = OfLookups.section (of.constant-type stored)
+  string-only stored (kept.number b) = of.other-type stored
   string-only stored (kept.string t) = tt
 
   width-only : (c : Constant T) → Only OfLookups (charWidth c)
   width-only c =
       only-cond OfLookups (eqb (c .kind) 6) (found 1) (cond (eqb (c .kind) 7) (found 2) (refused (invalidConstantType (c .kind)))) tt
-      (only-cond OfLookups (eqb (c .kind) 7) (found 2) (refused (invalidConstantType (c .kind))) tt (OfLookups.section (of.constant-type (c .kind))))
+      (only-cond OfLookups (eqb (c .kind) 7) (found 2) (refused (invalidConstantType (c .kind))) tt (of.other-type (c .kind)))
 
   numbers-only : (kind width i : ℕ) (l : List (Constant T)) → Only OfLookups (numberOf kind width i l)
   numbers-only kind width i l = constant-only i (asNumber kind width) (λ c. number-only kind width (c .kind) (c .kept)) l

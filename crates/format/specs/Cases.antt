@@ -12,7 +12,6 @@ use Rattle.format.specs.Parts.{byBytes}
 use Rattle.format.specs.Types.{Array, array, naturalStride, typeTables}
 use Rattle.format.specs.Constants.{constants}
 use Rattle.format.specs.Debug.{noTables}
-use Rattle.format.specs.Lines.{lineFor}
 use Rattle.format.specs.Load.{debugOf}
 use Rattle.format.specs.Record.{readFrom}
 use Rattle.format.specs.Lookups.{byteSize, runAnswersOf, runAnswers}
@@ -48,7 +47,7 @@ pub record Cases (hash : List ℕ → List ℕ) : Type 0 where
   pub function-1 : (offset : ℕ) → lineAt hash mill 1 offset ≡ refused noLine
   pub texts : (utf8 (0xED ∷ 0xA0 ∷ 0x80 ∷ []) ≡ false) × (utf8 (0xC0 ∷ 0x80 ∷ []) ≡ false) × (utf8 (0xEF ∷ 0xBF ∷ 0xBF ∷ []) ≡ true)
   pub empty-debug : debugOf (0 ∷ 0 ∷ []) ≡ some noTables
-  pub empty-line : (function offset : ℕ) → lineFor function offset (noTables {T = List ℕ} .lines) ≡ refused noLine
+  pub empty-line : (function offset : ℕ) → lineAt hash (millWith 6 0 (0 ∷ 0 ∷ [])) function offset ≡ refused noLine
 
 -- what the four wrong turns would answer otherwise
 pub record WrongTurns (hash : List ℕ → List ℕ) : Type 0 where

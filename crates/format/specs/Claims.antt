@@ -8,6 +8,7 @@ use Rattle.format.specs.UnknownTables.{UnknownTables, UnknownTablesOfRec
 use Rattle.format.specs.Order.{Order}
 use Rattle.format.specs.Refusals.{Refusals}
 use Rattle.format.specs.Debug.{Line}
+use Rattle.format.specs.Indexing.{Indexing}
 use Rattle.format.specs.LineFound.{LineFound}
 use Rattle.format.specs.Examples.{FirstHalfSpeaks, TypesPremiseNeeded, EmptyCodePlaceNeeded, ContentHashNeeded, SecondHalfSpeaks}
 use Rattle.format.specs.Cases.{Cases, WrongTurns}
@@ -18,6 +19,7 @@ pub record Claims (hash : List ℕ → List ℕ) : Type 0 where
   pub order : Order
   pub places-hold : (f : List ℕ) (r : Container) → PlacesHold f r
   pub own-record : OwnRecord hash
+  pub indexing : Indexing
   pub line-found : (function query : ℕ) (es : List Line) → LineFound function query es
   pub premises : Premises
   pub run-side-independence : RunSideIndependence hash

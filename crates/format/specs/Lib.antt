@@ -17,6 +17,7 @@ pub mod UnknownTables
 pub mod OwnRecord
 pub mod Order
 pub mod Refusals
+pub mod Indexing
 pub mod LineFound
 pub mod Examples
 pub mod Cases

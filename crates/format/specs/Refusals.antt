@@ -1,5 +1,5 @@
 -- Demand 1 of the definitions: a file loads or is refused by document 01's table, and so does every lookup on any file, record and index.
-use Prim.Native.Nat.{ℕ, _<_}
+use Prim.Native.Nat.{ℕ, _<_, _≤_}
 use mathlib.Core.Bool.{false}
 use mathlib.Core.Path.{_≡_}
 use mathlib.Core.List.{List}
@@ -21,7 +21,8 @@ pub data OfSections : Fault → Type 0 where
   task-type : (kind : ℕ) → 2 < kind → OfSections (invalidTaskType kind)
   field-type : (kind : ℕ) → 10 < kind → OfSections (invalidFieldType kind)
   stride : (kind extra stride : ℕ) → strideFits kind extra stride ≡ false → OfSections (invalidArrayStride kind stride)
-  constant-type : (kind : ℕ) → OfSections (invalidConstantType kind)
+  constant-type : (kind : ℕ) → 7 < kind → OfSections (invalidConstantType kind)
+  constant-size : (kind size : ℕ) → kind ≤ 5 → 8 < size → OfSections (invalidConstantType kind)
 
 -- those, and the refusals of header and hash: reading
 pub data OfReading : Fault → Type 0 where
@@ -34,6 +35,8 @@ pub data OfReading : Fault → Type 0 where
 pub data OfLookups : Fault → Type 0 where
   section : {f : Fault} → OfSections f → OfLookups f
   constant-index : (i : ℕ) → OfLookups (invalidConstantIndex i)
+  -- another type than asked for: the entry's
+  other-type : (kind : ℕ) → OfLookups (invalidConstantType kind)
   no-function : OfLookups noFunction
   no-line : OfLookups noLine
   unsorted : OfLookups unsortedMap

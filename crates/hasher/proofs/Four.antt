@@ -9,7 +9,7 @@ use lib.ListN.{length, drop, length-drop}
 use lib.Seq.{drop-drop}
 use borrow.Author.Tests.{lt-ltb, le-ltb}
 use Rattle.wide.specs.Lanes.{counter, chunkValue, from}
-use Rattle.hasher.specs.State.{chunkDone, fed}
+use Rattle.hasher.specs.State.{chunkDone, fedFreely}
 use Rattle.hasher.specs.Whole.{chunksDone, atOnce}
 use Rattle.hasher.specs.declared.Hasher.{Hasher}
 use Rattle.hasher.proofs.Stacking.{lt-or-le}
@@ -17,14 +17,14 @@ use Rattle.hasher.proofs.Feeding.{Empty, fed-chunk}
 
 -- feeding them, with more behind them
 pub fed-chunks : (n : ℕ) (h : Hasher) (s : List ℕ) → h .len ≡ 0 → length (h .block) ≡ 64 → h .blocks ≡ 0 → 1024 * n < length s
-    → fed h s ≡ fed (chunksDone n h s) (drop (1024 * n) s)
+    → fedFreely h s ≡ fedFreely (chunksDone n h s) (drop (1024 * n) s)
 unfolding chunkDone chunksDone
 fed-chunks zero h s z l b p = refl
 fed-chunks (suc n) h s z l b p =
     let d : 1024 + 1024 * n ≡ 1024 * suc n = omega arith in
     fed-chunk h s z l b (omega arith)
     ∙ fed-chunks n (chunkDone h (chunkValue (h .cv) (h .chunks) s)) (drop 1024 s) refl refl refl (omega (arith, length-drop 1024 s))
-    ∙ ap (fed (chunksDone (suc n) h s)) (drop-drop (1024 * n) 1024 s ∙ ap (λ (k : ℕ). drop k s) d)
+    ∙ ap (fedFreely (chunksDone (suc n) h s)) (drop-drop (1024 * n) 1024 s ∙ ap (λ (k : ℕ). drop k s) d)
 
 -- as many as are taken at once
 pub at-once-fits : (left : ℕ) → 1024 < left → (1024 * atOnce left < left) × (0 < atOnce left)

@@ -1,5 +1,6 @@
 pub mod Stacking
 pub mod Feeding
+pub mod Room
 pub mod Four
 pub mod Turns
 pub mod Zeros

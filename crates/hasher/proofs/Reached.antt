@@ -14,7 +14,7 @@ use Rattle.compression.specs.Laws.{words-filled}
 use Rattle.hasher.specs.Hash.{valueOf, chunkOf, rootOf, hashWords}
 use Rattle.hasher.specs.Stack.{levels, under}
 use Rattle.compression.specs.Chain.{chained}
-use Rattle.hasher.specs.State.{filled, start, nodeWith, nextBlock, chunkDone, nextChunk, advanced, withRoom, absorbed, fed, finished}
+use Rattle.hasher.specs.State.{filled, start, nodeWith, nextBlock, chunkDone, nextChunk, advanced, withRoom, absorbed, fedFreely, finished}
 use Rattle.hasher.specs.declared.Hasher.{Hasher}
 use Rattle.hasher.proofs.Tree.{treeFrom, tree-deeper, waiting-none, under-waiting}
 use Rattle.hasher.proofs.Chunks.{chunk-blocks, chained-more, filled-more}
@@ -167,8 +167,8 @@ reached-absorbed h bs b f size =
     let room = holds-room h bs f size in
     record { holds = holds-byte (withRoom h) bs (room .0) b (room .1); some = λ z. omega arith }
 
-pub reached-fed : (h : Hasher) (bs cs : List ℕ) → Reached h bs → length bs + length cs ≤ 1024 * 2 ^ levels → Reached (fed h cs) (bs ++ cs)
-unfolding fed
+pub reached-fed : (h : Hasher) (bs cs : List ℕ) → Reached h bs → length bs + length cs ≤ 1024 * 2 ^ levels → Reached (fedFreely h cs) (bs ++ cs)
+unfolding fedFreely
 reached-fed h bs [] r size = rw append-nil r
 reached-fed h bs (c ∷ cs) r size =
     rw append-assoc at

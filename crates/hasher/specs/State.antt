@@ -1,15 +1,15 @@
 -- What feeding and finishing make of every state, also of one that no feeding made.
 use mathlib.Core.Bool.{cond}
 use mathlib.Core.List.{List, [], _∷_, _++_}
-use Prim.Native.Nat.{ℕ, _+_, _-_, _%_, _^_}
+use Prim.Native.Nat.{ℕ, _+_, _*_, _-_, _%_, _^_, min}
 use lib.Dec.{ltb}
-use lib.ListN.{set, replicate}
+use lib.ListN.{set, take, replicate}
 use lib.Count.{trailingZeros}
 use Rattle.compression.specs.Word.{words}
 use Rattle.compression.specs.Compression.{iv, compress, chunkEnd}
 use Rattle.compression.specs.Chain.{startFlag}
 use Rattle.hasher.specs.Hash.{valueOf, rootOf}
-use Rattle.hasher.specs.Stack.{valuesOf, under, pushed}
+use Rattle.hasher.specs.Stack.{levels, valuesOf, under, pushed}
 use Rattle.hasher.specs.declared.Node.{Node}
 use Rattle.hasher.specs.declared.Value.{Value}
 use Rattle.hasher.specs.declared.Hasher.{Hasher}
@@ -76,9 +76,23 @@ absorbed h b =
     let r = withRoom h in
     record { cv = r .cv; block = set (r .block) (r .len) b; len = r .len + 1; blocks = r .blocks; stack = r .stack; chunks = r .chunks }
 
+-- all of the bytes, however many the state has taken in
+unfoldable pub fedFreely : Hasher → List ℕ → Hasher
+fedFreely h [] = h
+fedFreely h (b ∷ bs) = fedFreely (absorbed h b) bs
+
+-- the most bytes that a state takes in: 2 ^ levels chunks
+abbrev pub capacity : ℕ
+capacity = 1024 * 2 ^ levels
+
+-- How many bytes a state has taken in. In a state that no feeding made, more than 64 bytes in the block count as 64, and more than 15 blocks
+-- as 15: so each byte that is taken in counts as one, whatever the state.
+abbrev pub fill : Hasher → ℕ
+fill h = 1024 * h .chunks + 64 * min (h .blocks) 15 + min (h .len) 64
+
+-- the first of the bytes, as many as there is room for; the others are dropped
 unfoldable pub fed : Hasher → List ℕ → Hasher
-fed h [] = h
-fed h (b ∷ bs) = fed (absorbed h b) bs
+fed h bs = fedFreely h (take (capacity - fill h) bs)
 
 -- the digest's words: the current chunk's node, joined with all that waits, the last join with the flag ROOT
 unfoldable pub finished : Hasher → List ℕ

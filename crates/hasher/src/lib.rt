@@ -31,6 +31,12 @@ const FOUR_CHUNKS: usize = 4096;
 // The most values that wait.
 const LEVELS: usize = 8;
 
+// The most chunks that a state takes in.
+const CHUNKS: u64 = 1 << LEVELS;
+
+// The most bytes that a state takes in.
+const CAPACITY: usize = CHUNK_LEN << LEVELS;
+
 const CHUNK_END: u32 = 2;
 
 const PARENT: u32 = 4;
@@ -313,10 +319,10 @@ impl Hasher {
         self.take_chunk(s, at)
     }
 
-    // The state fed with the bytes of `s`. A turn takes in the full block, whole chunks, whole blocks, or what the block has room for. The
-    // last two alter the state in place, so that the values that wait are not copied for them.
-    pub fn update(self, s: &[u8]) -> Hasher
-        ensures { λ r. ⌜ r ≡ T.fed self (now (s .entry)) ⌝ }
+    // The state fed with all bytes of `s`, however many it has taken in. A turn takes in the full block, whole chunks, whole blocks, or
+    // what the block has room for. The last two alter the state in place, so that the values that wait are not copied for them.
+    fn feed(self, s: &[u8]) -> Hasher
+        ensures { λ r. ⌜ r ≡ T.fedFreely self (now (s .entry)) ⌝ }
     {
         let mut h = self;
         let mut at = 0;
@@ -352,7 +358,30 @@ impl Hasher {
         h
     }
 
-    // The eight words of the digest of what was fed.
+    // How many bytes the state has taken in. One that no feeding made may say more than `CAPACITY`; that counts as `CAPACITY`.
+    pub fn taken(self) -> usize
+        ensures { λ r. ⌜ r ≡ min (T.fill self) T.capacity ⌝ }
+    {
+        if CHUNKS <= self.chunks {
+            return CAPACITY;
+        }
+        let chunks = self.chunks as usize;
+        let blocks = least(self.blocks as usize, 15);
+        let len = least(self.len as usize, BLOCK_LEN);
+        CHUNK_LEN * chunks + BLOCK_LEN * blocks + len
+    }
+
+    // The state fed with the bytes of `s`, as many as it has room for. In all a state takes in at most `CAPACITY` bytes; what comes behind
+    // them is dropped.
+    pub fn update(self, s: &[u8]) -> Hasher
+        ensures { λ r. ⌜ r ≡ T.fed self (now (s .entry)) ⌝ }
+    {
+        let n = least(CAPACITY - self.taken(), s.len());
+        self.feed(&s[..n])
+    }
+
+    // The root's eight words. They are BLAKE3's digest of all that was fed where that was at most `CAPACITY` bytes; `blake3::finish` refuses
+    // where it may have been more.
     pub fn finish(self) -> [u32; 8]
         ensures { λ r. ⌜ r ≡ T.finished self ⌝ }
     {

@@ -206,27 +206,27 @@ pub fn without_debug_bit(flags: u8) -> u8
 }
 
 // The header as the content hash covers it: without the debug bit, and zero where the two hashes and the directory stand.
-pub fn masked(file: &[u8]) -> [u8; 256]
-    requires { ⌜ 256 ≤ length (now file) ⌝ }
-    ensures { λ r. ⌜ r ≡ maskedHeader (now (file .entry)) ⌝ }
+pub fn masked(header: &[u8; 256]) -> [u8; 256]
+    ensures { λ r. ⌜ r ≡ maskedHeader (now (header .entry)) ⌝ }
 {
+    let bytes = &header[..];
     let mut image = [0u8; 256];
-    copy(&mut image, 0, &file[0..FLAGS_OFFSET]);
-    image[FLAGS_OFFSET] = without_debug_bit(file[FLAGS_OFFSET]);
+    copy(&mut image, 0, &bytes[0..FLAGS_OFFSET]);
+    image[FLAGS_OFFSET] = without_debug_bit(bytes[FLAGS_OFFSET]);
     copy(
         &mut image,
         CONTENT_HASH_END,
-        &file[CONTENT_HASH_END..DEBUG_HASH_START],
+        &bytes[CONTENT_HASH_END..DEBUG_HASH_START],
     );
     copy(
         &mut image,
         DEBUG_HASH_END,
-        &file[DEBUG_HASH_END..SECTION_DIRECTORY_START],
+        &bytes[DEBUG_HASH_END..SECTION_DIRECTORY_START],
     );
     copy(
         &mut image,
         SECTION_DIRECTORY_END,
-        &file[SECTION_DIRECTORY_END..HEADER_SIZE],
+        &bytes[SECTION_DIRECTORY_END..HEADER_SIZE],
     );
     image
 }

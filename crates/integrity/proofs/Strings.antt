@@ -1,14 +1,14 @@
--- The state fed with the masked header and the sections in turn is the state fed with the hashed string; its digest is the content hash.
+-- The masked header and the sections one behind the other are the hashed string; its digest is the content hash. It is never refused: what is
+-- hashed of a file within the limit is within the hash's limit.
 use mathlib.Core.Path.{_≡_, refl, sym, ap, _∙_}
 use mathlib.Core.Bool.{Bool, true, false, not, _&&_, _||_, cond}
-use mathlib.Core.List.{List, [], _∷_, _++_, append-assoc, append-nil}
+use mathlib.Core.List.{List, [], _++_}
 use Prim.Native.Nat.{ℕ, _+_, _≤_, _<_}
 use native.Mathlib.Omega.{arith}
 use lib.Dec.{leb, eqb}
-use lib.ListN.{length}
+use lib.ListN.{length, take}
 use borrow.Author.Tests.{le-leb, lt-leb, eqb-true, eq-eqb, ne-eqb}
 use Rattle.reading.specs.Fault.{shortInput}
-use Rattle.reading.specs.Numbers.{wordBytes}
 use Rattle.reading.specs.Answer.{refused, found, _>>=_, _>>_, need}
 use Rattle.format.specs.Faults.{tooLong, sectionSizeMismatch}
 use Rattle.format.specs.Parts.{limit, Place, cut, isInside}
@@ -16,11 +16,10 @@ use Rattle.format.specs.Header.{Directory}
 use Rattle.format.specs.Integrity.{maskedHeader, sectionIn, hashedIn, hashedString}
 use Rattle.format.proofs.Places.{inside-is}
 use Rattle.format.proofs.Layouts.{hash-limit}
+use Rattle.reading.proofs.Parts.{part-of-part}
 use Rattle.base.specs.Section.{bytesOf}
-use Rattle.hasher.specs.State.{start, fed, finished}
-use Rattle.hasher.proofs.Laws.{laws}
-use Rattle.blake3.proofs.Whole.{whole}
-use Rattle.integrity.specs.Hashes.{isHashable, allHashable, fedSections, contentHash}
+use Rattle.blake3.proofs.Whole.{within}
+use Rattle.integrity.specs.Hashes.{isHashable, allHashable, contentHashOf, contentHash}
 
 -- what the hash takes of a section
 hashed-is : (f : List ℕ) (p : Place) → hashedIn f p ≡ (need (isHashable f p) sectionSizeMismatch >> found (bytesOf f p))
@@ -65,6 +64,11 @@ four m s t u v true true false d = refl
 four m s t u v true true true false = refl
 four m s t u v true true true true = refl
 
+-- the mask looks at a file's first 256 bytes
+masked-first : (f : List ℕ) → maskedHeader (take 256 f) ≡ maskedHeader f
+unfolding maskedHeader
+masked-first f = rw (part-of-part f 0 256 0 7 (omega arith), part-of-part f 0 256 7 1 (omega arith), part-of-part f 0 256 40 32 (omega arith), part-of-part f 0 256 104 32 (omega arith), part-of-part f 0 256 192 64 (omega arith))
+
 module _ (f : List ℕ) (d : Directory) where
   abbrev string : List ℕ
   string = maskedHeader f ++ bytesOf f (d .tasks) ++ bytesOf f (d .types) ++ bytesOf f (d .constants) ++ bytesOf f (d .code)
@@ -72,9 +76,6 @@ module _ (f : List ℕ) (d : Directory) where
   string-is : hashedString f d ≡ (need (allHashable f d) sectionSizeMismatch >> found string)
   unfolding hashedString
   string-is = rw (hashed-is f (d .tasks), hashed-is f (d .types), hashed-is f (d .constants), hashed-is f (d .code)) (four (maskedHeader f) (bytesOf f (d .tasks)) (bytesOf f (d .types)) (bytesOf f (d .constants)) (bytesOf f (d .code)) (isHashable f (d .tasks)) (isHashable f (d .types)) (isHashable f (d .constants)) (isHashable f (d .code)))
-
-  fed-is : fedSections (fed start (maskedHeader f)) f d ≡ fed start string
-  fed-is = laws .parts start (maskedHeader f ∷ bytesOf f (d .tasks) ∷ bytesOf f (d .types) ∷ bytesOf f (d .constants) ∷ bytesOf f (d .code) ∷ []) ∙ ap (fed start) (simp (append-nil, append-assoc))
 
   pub hash-long : limit < length f → refused tooLong ≡ contentHash f d
   unfolding contentHash
@@ -89,8 +90,8 @@ module _ (f : List ℕ) (d : Directory) where
     unfolding contentHash
     hash-outside e = rw (le-leb _ _ l, le-leb _ _ w, string-is, e)
 
-    pub hash-found : allHashable f d ≡ true → found (wordBytes (finished (fedSections (fed start (maskedHeader f)) f d))) ≡ contentHash f d
+    pub hash-found : allHashable f d ≡ true → contentHashOf (take 256 f) (bytesOf f (d .tasks)) (bytesOf f (d .types)) (bytesOf f (d .constants)) (bytesOf f (d .code)) ≡ contentHash f d
     unfolding contentHash
     hash-found e =
         let k : hashedString f d ≡ found string = string-is ∙ ap (λ (y : Bool). need y sectionSizeMismatch >> found string) e in
-        rw (le-leb _ _ l, le-leb _ _ w, k, fed-is) (ap found (whole string (hash-limit .holds f d string l k)))
+        rw (masked-first f, le-leb _ _ l, le-leb _ _ w, k) (sym (within string (hash-limit .holds f d string l k)))

@@ -1,7 +1,7 @@
 -- The content hash and the debug hash with BLAKE3, over any file, header and section (document 01, "Reading", 3 and 5).
 use Prim.Native.Nat.{ℕ}
 use mathlib.Core.Bool.{Bool, false, _&&_, _||_, cond}
-use mathlib.Core.List.{List}
+use mathlib.Core.List.{List, _++_}
 use lib.Dec.{leb, eqb}
 use lib.ListN.{length}
 use Rattle.reading.specs.Fault.{shortInput}
@@ -9,13 +9,14 @@ use Rattle.reading.specs.Answer.{Got, refused, found, _>>=_, _>>_, need}
 use Rattle.format.specs.Faults.{tooLong, contentHashMismatch}
 use Rattle.format.specs.Parts.{limit, Place, isInside, same}
 use Rattle.format.specs.Header.{Directory, Header}
-use Rattle.format.specs.Integrity.{hashedString, noHash}
-use Rattle.base.specs.Section.{bytesOf}
-use Rattle.hasher.specs.State.{fed}
-use Rattle.hasher.specs.declared.Hasher.{Hasher}
+use Rattle.format.specs.Integrity.{maskedHeader, hashedString, noHash}
 use Rattle.blake3.specs.Blake3.{blake3, hashAsked}
 
--- The content hash: 10 over the file's limit of 65,536 bytes, 1 where the file has no whole header, 4 where a section of more than 0 bytes does not lie in
+-- The content hash over its five parts: of the header, masked, then tasks, types, constants and code, one behind the other
+abbrev pub contentHashOf : List ℕ → List ℕ → List ℕ → List ℕ → List ℕ → Got (List ℕ)
+contentHashOf header tasks types constants code = hashAsked (maskedHeader header ++ tasks ++ types ++ constants ++ code)
+
+-- The content hash of a file: 10 over the file's limit of 65,536 bytes, 1 where the file has no whole header, 4 where a section of more than 0 bytes does not lie in
 -- the file behind the header, else BLAKE3 of the hashed string
 unfoldable pub contentHash : List ℕ → Directory → Got (List ℕ)
 contentHash f d = do
@@ -46,7 +47,3 @@ isHashable f p = eqb (p .size) 0 || isInside f p
 
 abbrev pub allHashable : List ℕ → Directory → Bool
 allHashable f d = isHashable f (d .tasks) && isHashable f (d .types) && isHashable f (d .constants) && isHashable f (d .code)
-
--- a state fed with the sections in turn
-abbrev pub fedSections : Hasher → List ℕ → Directory → Hasher
-fedSections h f d = fed (fed (fed (fed h (bytesOf f (d .tasks))) (bytesOf f (d .types))) (bytesOf f (d .constants))) (bytesOf f (d .code))

@@ -1,12 +1,16 @@
 // The content hash over the masked header and four sections, and whether a debug hash fits.
 ghost use mathlib.Core.Path.{_≡_};
+ghost use Prim.Native.Nat.{_≤_};
+ghost use lib.ListN.{length, take};
 ghost use Rattle.base.specs.Digest.{digestBytes};
 ghost use Rattle.base.specs.Section.{placeIn, bytesOf, checkedFrom};
 ghost use Rattle.blake3.specs.Blake3.{hashFrom};
 ghost use Rattle.header.specs.Answers.{directoryIn, headerIn};
-ghost use Rattle.integrity.specs.Hashes.{contentHash, contentChecked, debugFits, isHashable, allHashable, fedSections};
+ghost use Rattle.integrity.specs.Hashes.{contentHash, contentHashOf, contentChecked, debugFits, isHashable, allHashable};
 ghost use Rattle.integrity.specs.Laws.{Laws};
 use base::digest::Digest;
+pub use base::digest::HASH_LEN;
+pub use base::digest::NO_HASH;
 use base::error::ContainerError;
 use base::section::Checked;
 use base::section::FILE_LIMIT;
@@ -15,12 +19,14 @@ use base::section::Part;
 use base::section::Section;
 use base::section::is_inside;
 use blake3::HashAnswer;
+use blake3::fed_with;
 use blake3::finish;
 use blake3::hash;
 use hasher::Hasher;
 use header::FileHeader;
 use header::SectionDirectory;
 use header::masked;
+use reading::copy;
 
 // Whether a section can be hashed: it lies in the file behind the header, or its size is 0, wherever it is said to be.
 fn is_hashable(file: &[u8], section: Section) -> bool
@@ -59,17 +65,36 @@ fn bytes_of(file: &[u8], section: Section) -> &[u8]
     part.of(file)
 }
 
-// A state fed with the four sections.
-fn fed_sections(h: Hasher, file: &[u8], sections: SectionDirectory) -> Hasher
-    ensures { λ r. ⌜ r ≡ fedSections h (now (file .entry)) (directoryIn sections) ⌝ }
+// The header's bytes of a file that has them.
+fn header_of(file: &[u8]) -> [u8; 256]
+    requires { ⌜ 256 ≤ length (now file) ⌝ }
+    ensures { λ r. ⌜ r ≡ take 256 (now (file .entry)) ⌝ }
 {
-    let tasks = h.update(bytes_of(file, sections.task_section));
-    let types = tasks.update(bytes_of(file, sections.type_section));
-    let constants = types.update(bytes_of(file, sections.const_section));
-    constants.update(bytes_of(file, sections.code_section))
+    let mut header = [0u8; 256];
+    copy(&mut header, 0, &file[0..HEADER_SIZE]);
+    header
 }
 
-// The content hash of a file, by the places that `sections` says, which nothing vouches for: a refusal, or the digest.
+// The content hash of five parts: a header, which is masked, and the four sections, one behind the other; 10 where they are over the hash's limit
+// together. Each feeding is lent the state.
+pub fn content_hash_of(
+    header: &[u8; 256],
+    task_table: &[u8],
+    type_section: &[u8],
+    const_section: &[u8],
+    code_section: &[u8],
+) -> HashAnswer
+    ensures { λ r. ⌜ hashFrom r ≡ contentHashOf (now (header .entry)) (now («task_table» .entry)) (now («type_section» .entry)) (now («const_section» .entry)) (now («code_section» .entry)) ⌝ }
+{
+    let image = masked(header);
+    let state = fed_with(Hasher::new(), &image);
+    let state = fed_with(state, task_table);
+    let state = fed_with(state, type_section);
+    let state = fed_with(state, const_section);
+    finish(fed_with(state, code_section))
+}
+
+// The content hash of a file, by the places that `sections` gives, which are not trusted: a refusal, or the digest.
 pub fn content_hash(file: &[u8], sections: SectionDirectory) -> HashAnswer
     ensures { λ r. ⌜ hashFrom r ≡ contentHash (now (file .entry)) (directoryIn sections) ⌝ }
 {
@@ -82,9 +107,14 @@ pub fn content_hash(file: &[u8], sections: SectionDirectory) -> HashAnswer
     if !all_hashable(file, sections) {
         return HashAnswer::Refused(ContainerError::SectionSizeMismatch);
     }
-    let image = masked(file);
-    let start = Hasher::new().update(&image);
-    HashAnswer::Digest(finish(fed_sections(start, file, sections)))
+    let header = header_of(file);
+    content_hash_of(
+        &header,
+        bytes_of(file, sections.task_section),
+        bytes_of(file, sections.type_section),
+        bytes_of(file, sections.const_section),
+        bytes_of(file, sections.code_section),
+    )
 }
 
 // Whether the header's content hash is the file's; an all-zero one is not checked.

@@ -1,16 +1,17 @@
 -- The order test over the map's bytes: what is left behind an entry decides.
-use mathlib.Core.Path.{_≡_, refl, sym, _∙_}
+use mathlib.Core.Path.{_≡_, refl, sym, ap, _∙_}
 use mathlib.Core.Bool.{Bool, true, false}
 use mathlib.Core.List.{List, _∷_}
 use Prim.Native.Nat.{ℕ, _+_, _*_, _-_, _≤_, _<_}
+use native.Mathlib.Decide.{decLe}
 use native.Mathlib.Omega.{arith}
 use lib.ListN.{length, drop}
 use Rattle.reading.specs.Reader.{got}
 use Rattle.reading.specs.Answer.{Got, found}
 use Rattle.format.specs.Debug.{Line, line}
 use Rattle.format.specs.Lines.{inOrder, sorted}
-use Rattle.line_map.specs.Lookups.{inLines, sortedIn}
-use Rattle.line_map.proofs.Entries.{in-none, in-any, in-more}
+use Rattle.line_map.specs.Lookups.{inLines, sortedIn, isTrue, isSorted}
+use Rattle.line_map.proofs.Entries.{lines-read, in-short, in-none, in-any, in-more}
 
 -- whether `last` and the `n` entries from the place `p` on are sorted
 abbrev pub sortedBehind : Line → List ℕ → ℕ → ℕ → Got Bool
@@ -46,3 +47,15 @@ module _ (s : List ℕ) (at n : ℕ) where
       sorted-not l o =
           sym (in-any s (at + 10 * (i + 1)) (n - (i + 1)) (λ es. found false) (found false) (omega arith) (λ es. refl))
           ∙ step (λ es. found false) (λ es. rw o)
+
+-- what the order test tells
+module _ (s : List ℕ) (at n : ℕ) {r : Bool} (is : r ≡ isSorted s at n) where
+  pub sorted-found : 10 * n ≤ length s - at → found r ≡ sortedIn s at n
+  sorted-found h = let k = lines-read s at n h in rw (is, k .1)
+
+  pub sorted-fits : r ≡ true → 10 * n ≤ length s - at
+  sorted-fits t = go (decLe (10 * n) (length s - at))
+    where
+      go : Dec (10 * n ≤ length s - at) → 10 * n ≤ length s - at
+      go (yes l) = l
+      go (no l) = let e : false ≡ true = ap isTrue (in-short s at n (λ es. found (sorted es)) (omega arith)) ∙ sym is ∙ t in let z : _≡_ {A = ℕ} 0 1 = cc in omega arith

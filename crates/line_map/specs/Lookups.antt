@@ -1,12 +1,12 @@
 -- What the functions answer, over the section's bytes `s` and a map of `n` entries at its place `at`.
 use Prim.Native.Nat.{ℕ, _*_, _-_}
-use mathlib.Core.Bool.{Bool}
+use mathlib.Core.Bool.{Bool, false}
 use mathlib.Core.List.{List}
 use mathlib.Core.Option.{Option, none}
 use lib.Dec.{leb}
 use lib.ListN.{length, drop}
 use Rattle.reading.specs.Reader.{many}
-use Rattle.reading.specs.Answer.{Got, found, _>>=_, itemOf, indexed}
+use Rattle.reading.specs.Answer.{Got, refused, found, _>>=_, itemOf, indexed}
 use Rattle.format.specs.Faults.{noEntry}
 use Rattle.format.specs.Debug.{Line, line}
 use Rattle.format.specs.Lines.{sorted, lineFor}
@@ -22,6 +22,14 @@ inLines s at n pick = itemOf (many n line (drop at s)) >>= pick
 
 abbrev pub sortedIn : List ℕ → ℕ → ℕ → Got Bool
 sortedIn s at n = inLines s at n (λ es. found (sorted es))
+
+-- whether the map is sorted; one that the section does not hold whole is not
+abbrev pub isTrue : Got Bool → Bool
+isTrue (refused f) = false
+isTrue (found b) = b
+
+abbrev pub isSorted : List ℕ → ℕ → ℕ → Bool
+isSorted s at n = isTrue (sortedIn s at n)
 
 abbrev pub choiceIn : List ℕ → ℕ → ℕ → ℕ → ℕ → Got (Option Line)
 choiceIn s at n function query = inLines s at n (λ es. found (choiceOf function query none es))

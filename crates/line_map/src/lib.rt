@@ -9,7 +9,7 @@ ghost use Rattle.format.specs.Debug.{line};
 ghost use Rattle.format.specs.Lines.{inOrder, better};
 ghost use Rattle.line_map.specs.Answers.{lineIn, lineFrom, maybeLine, lineNextFrom};
 ghost use Rattle.line_map.specs.Choice.{isAbove};
-ghost use Rattle.line_map.specs.Lookups.{linesFit, sortedIn, choiceIn, sourceLineIn, lineOfMap};
+ghost use Rattle.line_map.specs.Lookups.{linesFit, sortedIn, isSorted, choiceIn, sourceLineIn, lineOfMap};
 ghost use Rattle.line_map.specs.Laws.{Laws};
 use base::error::ContainerError;
 use base::id_types::FunctionId;
@@ -87,8 +87,8 @@ fn in_order(a: LineMapEntry, b: LineMapEntry) -> bool
     false
 }
 
-// Whether the map is sorted: the keys of its entries never fall.
-pub fn is_sorted(s: &[u8], at: usize, n: usize) -> bool
+// Whether the keys of the map's entries never fall.
+fn never_falls(s: &[u8], at: usize, n: usize) -> bool
     requires { ⌜ 10 * n ≤ length (now s) - at ⌝ }
     ensures { λ r. ⌜ found r ≡ sortedIn (now (s .entry)) at n ⌝ }
 {
@@ -107,6 +107,16 @@ pub fn is_sorted(s: &[u8], at: usize, n: usize) -> bool
         i += 1;
     }
     true
+}
+
+// Whether the map is sorted. One that the section does not hold whole is not.
+pub fn is_sorted(s: &[u8], at: usize, n: usize) -> bool
+    ensures { λ r. ⌜ r ≡ isSorted (now (s .entry)) at n ⌝ }
+{
+    if lines_fit(s, at, n) {
+        return never_falls(s, at, n);
+    }
+    false
 }
 
 // Whether the key of `e` is above the query.
@@ -172,18 +182,16 @@ pub fn lookup_source_location(
 ) -> LineAnswer
     ensures { λ r. ⌜ lineFrom r ≡ sourceLineIn (now (s .entry)) at n («function_id» .0) «bytecode_offset» ⌝ }
 {
-    if lines_fit(s, at, n) {
-        if is_sorted(s, at, n) {
-            match choose(s, at, n, function_id, bytecode_offset) {
-                MaybeLine::None => LineAnswer::Refused(ContainerError::NoLine),
-                MaybeLine::Some(e) => LineAnswer::Entry(e),
-            }
-        } else {
-            LineAnswer::Refused(ContainerError::UnsortedMap)
-        }
-    } else {
-        LineAnswer::Refused(ContainerError::ShortInput)
+    if is_sorted(s, at, n) {
+        return match choose(s, at, n, function_id, bytecode_offset) {
+            MaybeLine::None => LineAnswer::Refused(ContainerError::NoLine),
+            MaybeLine::Some(e) => LineAnswer::Entry(e),
+        };
     }
+    if lines_fit(s, at, n) {
+        return LineAnswer::Refused(ContainerError::UnsortedMap);
+    }
+    LineAnswer::Refused(ContainerError::ShortInput)
 }
 
 // The entry at an index of the map.

@@ -1,28 +1,33 @@
--- What the code's answers mean.
-use Prim.Native.Nat.{ℕ, _+_, _<_}
+-- What the code answers for a step `x` whose line is put at the place `at` of the buffer `before`.
+use Prim.Native.Nat.{ℕ}
 use mathlib.Core.Path.{_≡_}
 use mathlib.Core.List.{List}
-use lib.ListN.{length}
 use Rattle.reading.specs.Places.{Next, ends, faulty, entry}
 use Rattle.reading.specs.declared.Table.{Table}
-use Rattle.text.specs.Text.{Wrote}
+use Rattle.text.specs.Text.{putAnswer, putOr}
+use Rattle.text.specs.declared.Put.{Put}
+use Rattle.text.specs.declared.Put.the-variants as put
 use Rattle.line_steps.specs.declared.PutNext.{PutNext}
 use Rattle.line_steps.specs.declared.PutNext.the-variants as next
 
--- a step that answers no entry
-abbrev pub NoEntry : Next (List ℕ) → Type 0
-NoEntry ends = Unit {0}
-NoEntry (faulty f) = Unit {0}
-NoEntry (entry l u) = ⊥
+-- behind a line that was put, the entries of `u` are still to come
+abbrev pub behindLine : Put → Table → PutNext
+behindLine put.NoRoom u = next.NoRoom
+behindLine (put.At n) u = next.At n u
 
--- a step that answers a line, which is put, and `u` is still to come
-pub record PutLine (before : List ℕ) (at : ℕ) (x : Next (List ℕ)) (after : List ℕ) (n : ℕ) (u : Table) : Type 0 where
-  pub line : List ℕ
-  pub answers : x ≡ entry line u
-  pub wrote : Wrote before at line after n
+-- the end where the step answers no entry; else no room, or the place behind the line
+abbrev pub nextAnswer : List ℕ → ℕ → Next (List ℕ) → PutNext
+nextAnswer before at ends = next.End
+nextAnswer before at (faulty f) = next.End
+nextAnswer before at (entry l u) = behindLine (putAnswer before at l) u
 
--- the line of the step `x` is put at the place `at`; or it answers none, and the buffer is as it was; or the buffer has not `room` bytes
-abbrev pub PutsNext : List ℕ → ℕ → Next (List ℕ) → ℕ → List ℕ → PutNext → Type 0
-PutsNext before at x room after next.NoRoom = length before < at + room
-PutsNext before at x room after next.End = NoEntry x × (after ≡ before)
-PutsNext before at x room after (next.At n u) = PutLine before at x after n u
+-- the buffer with the line put, or as it was
+abbrev pub nextPut : List ℕ → ℕ → Next (List ℕ) → List ℕ
+nextPut before at ends = before
+nextPut before at (faulty f) = before
+nextPut before at (entry l u) = putOr before at l
+
+-- r is answered, and the buffer became `after`
+pub record PutsNext (before : List ℕ) (at : ℕ) (x : Next (List ℕ)) (after : List ℕ) (r : PutNext) : Type 0 where
+  pub answer : r ≡ nextAnswer before at x
+  pub buffer : after ≡ nextPut before at x

@@ -1,8 +1,7 @@
 -- One step of the walk over each table of a file, over any file, any place `p` of the table's section and any table, with the entry's line in the
 -- entry's place. i is the entry's index.
-use Prim.Native.Nat.{ℕ, _+_, _*_}
+use Prim.Native.Nat.{ℕ}
 use mathlib.Core.List.{List}
-use lib.ListN.{length}
 use Rattle.reading.specs.Places.{Next, ends, faulty, entry}
 use Rattle.reading.specs.declared.Table.{Table}
 use Rattle.format.specs.Parts.{Place, cut}
@@ -13,7 +12,7 @@ use Rattle.type_section.specs.Lookups.{nextFieldAt, nextArrayAt, nextUserFbAt}
 use Rattle.constant_pool.specs.Lookups.{nextConstantAt}
 use Rattle.code_section.specs.Lookups.{nextFunctionAt}
 use Rattle.debug_walks.specs.Steps.{debugStepAt}
-use Rattle.entry_lines.specs.Lines.{lineRoom, taskLine, programLine, fieldLine, arrayLine, userFbLine, constantLine, functionLine, lineLine}
+use Rattle.entry_lines.specs.Lines.{taskLine, programLine, fieldLine, arrayLine, userFbLine, constantLine, functionLine, lineLine}
 use Rattle.line_steps.specs.declared.Listed.{Listed}
 use Rattle.line_steps.specs.declared.Listed.the-variants as listed
 
@@ -33,14 +32,3 @@ nextLineAt listed.UserFbs f p i t = lined (nextUserFbAt f p t) userFbLine
 nextLineAt listed.Constants f p i t = lined (nextConstantAt f p t) (λ c. constantLine i (onConstant (cut f) c))
 nextLineAt listed.Functions f p i t = lined (nextFunctionAt f p t) functionLine
 nextLineAt listed.Lines f p i t = lined (debugStepAt f p line t) lineLine
-
--- room for any line of the table; a constant's may have every byte of the file as its kept bytes
-abbrev pub roomOf : Listed → List ℕ → ℕ
-roomOf listed.Tasks f = lineRoom
-roomOf listed.Programs f = lineRoom
-roomOf listed.Fields f = lineRoom
-roomOf listed.Arrays f = lineRoom
-roomOf listed.UserFbs f = lineRoom
-roomOf listed.Constants f = 2 * length f + lineRoom
-roomOf listed.Functions f = lineRoom
-roomOf listed.Lines f = lineRoom

@@ -1,11 +1,9 @@
 // One step of a walk over a table of a file that puts the entry's line into a buffer that the caller lends, at the place `at`: a function for each
 // table, and one for any.
-ghost use Prim.Native.Nat.{_+_, _*_, _≤_};
-ghost use lib.ListN.{length};
+ghost use mathlib.Core.Path.{_≡_};
 ghost use Rattle.base.specs.Section.{placeIn};
-ghost use Rattle.entry_lines.specs.Lines.{lineRoom};
-ghost use Rattle.line_steps.specs.Steps.{nextLineAt, roomOf};
-ghost use Rattle.line_steps.specs.Answers.{PutsNext};
+ghost use Rattle.line_steps.specs.Steps.{nextLineAt};
+ghost use Rattle.line_steps.specs.Answers.{behindLine, PutsNext};
 ghost use Rattle.line_steps.specs.declared.Listed.the-variants as listed;
 use base::section::Section;
 use code_section::FuncNext;
@@ -27,15 +25,13 @@ use task_table::ProgramNext;
 use task_table::TaskNext;
 use task_table::next_program;
 use task_table::next_task;
+use text::Put;
 use type_section::ArrayNext;
 use type_section::FieldNext;
 use type_section::UserFbNext;
 use type_section::next_array;
 use type_section::next_field;
 use type_section::next_user_fb;
-
-// Room for any line without kept bytes: the longest, a task's, has at most 194 bytes (`lineRoom` of `entry_lines/specs/Lines.antt`).
-pub const LINE_ROOM: usize = 200;
 
 // The tables that are listed, each by a line for an entry.
 pub enum Listed {
@@ -49,24 +45,30 @@ pub enum Listed {
     Lines,
 }
 
-// What a step does: no room; no entry; or it puts a line, and answers the place behind it and the table of the other entries.
+// What a step does: its line does not fit; no entry; or it puts a line, and answers the place behind it and the table of the other entries.
 pub enum PutNext {
     NoRoom,
     End,
     At(usize, Table),
 }
 
+// A line that was put, or does not fit, and the table of the other entries.
+fn behind(line: Put, more: Table) -> PutNext
+    ensures { λ r. ⌜ r ≡ behindLine line more ⌝ }
+{
+    match line {
+        Put::NoRoom => PutNext::NoRoom,
+        Put::At(n) => PutNext::At(n, more),
+    }
+}
+
 fn put_next_task(out: &mut [u8], at: usize, file: &[u8], section: Section, rest: Table) -> PutNext
-    requires { ⌜ at + lineRoom ≤ length (now out) ⌝ }
-    ensures { λ r. ⌜ PutsNext (now (out .entry)) at (nextLineAt listed.Tasks (now (file .entry)) (placeIn section) 0 rest) lineRoom (now (out .exit)) r ⌝ }
+    ensures { λ r. ⌜ PutsNext (now (out .entry)) at (nextLineAt listed.Tasks (now (file .entry)) (placeIn section) 0 rest) (now (out .exit)) r ⌝ }
 {
     match next_task(file, section, rest) {
         TaskNext::End => PutNext::End,
         TaskNext::Refused(_) => PutNext::End,
-        TaskNext::Entry(x, more) => {
-            let n = put_task(out, at, x);
-            PutNext::At(n, more)
-        }
+        TaskNext::Entry(x, more) => behind(put_task(out, at, x), more),
     }
 }
 
@@ -77,30 +79,22 @@ fn put_next_program(
     section: Section,
     rest: Table,
 ) -> PutNext
-    requires { ⌜ at + lineRoom ≤ length (now out) ⌝ }
-    ensures { λ r. ⌜ PutsNext (now (out .entry)) at (nextLineAt listed.Programs (now (file .entry)) (placeIn section) 0 rest) lineRoom (now (out .exit)) r ⌝ }
+    ensures { λ r. ⌜ PutsNext (now (out .entry)) at (nextLineAt listed.Programs (now (file .entry)) (placeIn section) 0 rest) (now (out .exit)) r ⌝ }
 {
     match next_program(file, section, rest) {
         ProgramNext::End => PutNext::End,
         ProgramNext::Refused(_) => PutNext::End,
-        ProgramNext::Entry(x, more) => {
-            let n = put_program(out, at, x);
-            PutNext::At(n, more)
-        }
+        ProgramNext::Entry(x, more) => behind(put_program(out, at, x), more),
     }
 }
 
 fn put_next_field(out: &mut [u8], at: usize, file: &[u8], section: Section, rest: Table) -> PutNext
-    requires { ⌜ at + lineRoom ≤ length (now out) ⌝ }
-    ensures { λ r. ⌜ PutsNext (now (out .entry)) at (nextLineAt listed.Fields (now (file .entry)) (placeIn section) 0 rest) lineRoom (now (out .exit)) r ⌝ }
+    ensures { λ r. ⌜ PutsNext (now (out .entry)) at (nextLineAt listed.Fields (now (file .entry)) (placeIn section) 0 rest) (now (out .exit)) r ⌝ }
 {
     match next_field(file, section, rest) {
         FieldNext::End => PutNext::End,
         FieldNext::Refused(_) => PutNext::End,
-        FieldNext::Entry(x, more) => {
-            let n = put_field(out, at, x);
-            PutNext::At(n, more)
-        }
+        FieldNext::Entry(x, more) => behind(put_field(out, at, x), more),
     }
 }
 
@@ -112,16 +106,12 @@ fn put_next_array(
     index: usize,
     rest: Table,
 ) -> PutNext
-    requires { ⌜ at + lineRoom ≤ length (now out) ⌝ }
-    ensures { λ r. ⌜ PutsNext (now (out .entry)) at (nextLineAt listed.Arrays (now (file .entry)) (placeIn section) index rest) lineRoom (now (out .exit)) r ⌝ }
+    ensures { λ r. ⌜ PutsNext (now (out .entry)) at (nextLineAt listed.Arrays (now (file .entry)) (placeIn section) index rest) (now (out .exit)) r ⌝ }
 {
     match next_array(file, section, rest) {
         ArrayNext::End => PutNext::End,
         ArrayNext::Refused(_) => PutNext::End,
-        ArrayNext::Entry(x, more) => {
-            let n = put_array(out, at, index, x);
-            PutNext::At(n, more)
-        }
+        ArrayNext::Entry(x, more) => behind(put_array(out, at, index, x), more),
     }
 }
 
@@ -132,20 +122,15 @@ fn put_next_user_fb(
     section: Section,
     rest: Table,
 ) -> PutNext
-    requires { ⌜ at + lineRoom ≤ length (now out) ⌝ }
-    ensures { λ r. ⌜ PutsNext (now (out .entry)) at (nextLineAt listed.UserFbs (now (file .entry)) (placeIn section) 0 rest) lineRoom (now (out .exit)) r ⌝ }
+    ensures { λ r. ⌜ PutsNext (now (out .entry)) at (nextLineAt listed.UserFbs (now (file .entry)) (placeIn section) 0 rest) (now (out .exit)) r ⌝ }
 {
     match next_user_fb(file, section, rest) {
         UserFbNext::End => PutNext::End,
         UserFbNext::Refused(_) => PutNext::End,
-        UserFbNext::Entry(x, more) => {
-            let n = put_user_fb(out, at, x);
-            PutNext::At(n, more)
-        }
+        UserFbNext::Entry(x, more) => behind(put_user_fb(out, at, x), more),
     }
 }
 
-// A constant's line may have every byte of the file as its kept bytes. The test has no sum, which could wrap.
 fn put_next_constant(
     out: &mut [u8],
     at: usize,
@@ -154,19 +139,12 @@ fn put_next_constant(
     index: usize,
     rest: Table,
 ) -> PutNext
-    requires { ⌜ at + lineRoom ≤ length (now out) ⌝ }
-    ensures { λ r. ⌜ PutsNext (now (out .entry)) at (nextLineAt listed.Constants (now (file .entry)) (placeIn section) index rest) (2 * length (now (file .entry)) + lineRoom) (now (out .exit)) r ⌝ }
+    ensures { λ r. ⌜ PutsNext (now (out .entry)) at (nextLineAt listed.Constants (now (file .entry)) (placeIn section) index rest) (now (out .exit)) r ⌝ }
 {
-    if (out.len() - at - LINE_ROOM) / 2 < file.len() {
-        return PutNext::NoRoom;
-    }
     match next_constant(file, section, rest) {
         ConstNext::End => PutNext::End,
         ConstNext::Refused(_) => PutNext::End,
-        ConstNext::Entry(x, more) => {
-            let n = put_constant(out, at, index, x, file);
-            PutNext::At(n, more)
-        }
+        ConstNext::Entry(x, more) => behind(put_constant(out, at, index, x, file), more),
     }
 }
 
@@ -177,30 +155,22 @@ fn put_next_function(
     section: Section,
     rest: Table,
 ) -> PutNext
-    requires { ⌜ at + lineRoom ≤ length (now out) ⌝ }
-    ensures { λ r. ⌜ PutsNext (now (out .entry)) at (nextLineAt listed.Functions (now (file .entry)) (placeIn section) 0 rest) lineRoom (now (out .exit)) r ⌝ }
+    ensures { λ r. ⌜ PutsNext (now (out .entry)) at (nextLineAt listed.Functions (now (file .entry)) (placeIn section) 0 rest) (now (out .exit)) r ⌝ }
 {
     match next_function(file, section, rest) {
         FuncNext::End => PutNext::End,
         FuncNext::Refused(_) => PutNext::End,
-        FuncNext::Entry(x, more) => {
-            let n = put_function(out, at, x);
-            PutNext::At(n, more)
-        }
+        FuncNext::Entry(x, more) => behind(put_function(out, at, x), more),
     }
 }
 
 fn put_next_line(out: &mut [u8], at: usize, file: &[u8], section: Section, rest: Table) -> PutNext
-    requires { ⌜ at + lineRoom ≤ length (now out) ⌝ }
-    ensures { λ r. ⌜ PutsNext (now (out .entry)) at (nextLineAt listed.Lines (now (file .entry)) (placeIn section) 0 rest) lineRoom (now (out .exit)) r ⌝ }
+    ensures { λ r. ⌜ PutsNext (now (out .entry)) at (nextLineAt listed.Lines (now (file .entry)) (placeIn section) 0 rest) (now (out .exit)) r ⌝ }
 {
     match next_line(file, section, rest) {
         LineNext::End => PutNext::End,
         LineNext::Refused(_) => PutNext::End,
-        LineNext::Entry(x, more) => {
-            let n = put_line_entry(out, at, x);
-            PutNext::At(n, more)
-        }
+        LineNext::Entry(x, more) => behind(put_line_entry(out, at, x), more),
     }
 }
 
@@ -214,12 +184,8 @@ pub fn put_next(
     index: usize,
     rest: Table,
 ) -> PutNext
-    requires { ⌜ at ≤ length (now out) ⌝ }
-    ensures { λ r. ⌜ PutsNext (now (out .entry)) at (nextLineAt listed (now (file .entry)) (placeIn section) index rest) (roomOf listed (now (file .entry))) (now (out .exit)) r ⌝ }
+    ensures { λ r. ⌜ PutsNext (now (out .entry)) at (nextLineAt listed (now (file .entry)) (placeIn section) index rest) (now (out .exit)) r ⌝ }
 {
-    if out.len() - at < LINE_ROOM {
-        return PutNext::NoRoom;
-    }
     match listed {
         Listed::Tasks => put_next_task(out, at, file, section, rest),
         Listed::Programs => put_next_program(out, at, file, section, rest),

@@ -1,12 +1,9 @@
 // The lines of the lister that stand for no entry of a table: of the container, of its debug section, of its end, of a refusal. The
 // whole listing of a file is a definition, in `specs/Listing.antt`.
-ghost use Prim.Native.Nat.{_+_, _≤_};
 ghost use mathlib.Core.Option.{none, some};
-ghost use lib.ListN.{length};
 ghost use Rattle.base.specs.Error.{faultOf};
-ghost use Rattle.text.specs.Text.{Wrote};
+ghost use Rattle.text.specs.Text.{PutsLine};
 ghost use Rattle.header.specs.Answers.{headerIn};
-ghost use Rattle.entry_lines.specs.Lines.{lineRoom};
 ghost use Rattle.listing.specs.Lines.{containerLine, debugLine, endLine, refusedLine};
 ghost use Rattle.debug_tables.specs.Answers.{debugCountsIn, maybeDebug};
 ghost use Rattle.listing.specs.Laws.{AllLaws};
@@ -14,22 +11,21 @@ use base::error::ContainerError;
 use debug_tables::DebugCounts;
 use debug_tables::MaybeDebug;
 use header::FileHeader;
-use text::put_bytes;
+use text::Put;
 use text::put_dash_line;
 use text::put_line;
+use text::put_text;
 
-pub fn put_container(out: &mut [u8], at: usize, h: FileHeader) -> usize
-    requires { ⌜ at + lineRoom ≤ length (now out) ⌝ }
-    ensures { λ r. ⌜ Wrote (now (out .entry)) at (containerLine (headerIn h)) (now (out .exit)) r ⌝ }
+pub fn put_container(out: &mut [u8], at: usize, h: FileHeader) -> Put
+    ensures { λ r. ⌜ PutsLine (now (out .entry)) at (containerLine (headerIn h)) (now (out .exit)) r ⌝ }
 {
     let ns = [h.format_version as u64, h.profile as u64, h.flags as u64];
     put_line(out, at, b"container", &ns)
 }
 
 // The counts of the debug tables.
-fn put_counts(out: &mut [u8], at: usize, c: DebugCounts) -> usize
-    requires { ⌜ at + lineRoom ≤ length (now out) ⌝ }
-    ensures { λ r. ⌜ Wrote (now (out .entry)) at (debugLine (some (debugCountsIn c))) (now (out .exit)) r ⌝ }
+fn put_counts(out: &mut [u8], at: usize, c: DebugCounts) -> Put
+    ensures { λ r. ⌜ PutsLine (now (out .entry)) at (debugLine (some (debugCountsIn c))) (now (out .exit)) r ⌝ }
 {
     let ns = [
         c.lines as u64,
@@ -42,16 +38,14 @@ fn put_counts(out: &mut [u8], at: usize, c: DebugCounts) -> usize
     put_line(out, at, b"debug", &ns)
 }
 
-fn put_no_debug(out: &mut [u8], at: usize) -> usize
-    requires { ⌜ at + lineRoom ≤ length (now out) ⌝ }
-    ensures { λ r. ⌜ Wrote (now (out .entry)) at (debugLine none) (now (out .exit)) r ⌝ }
+fn put_no_debug(out: &mut [u8], at: usize) -> Put
+    ensures { λ r. ⌜ PutsLine (now (out .entry)) at (debugLine none) (now (out .exit)) r ⌝ }
 {
-    put_bytes(out, at, b"debug none\n")
+    put_text(out, at, b"debug none\n")
 }
 
-pub fn put_debug(out: &mut [u8], at: usize, debug: MaybeDebug) -> usize
-    requires { ⌜ at + lineRoom ≤ length (now out) ⌝ }
-    ensures { λ r. ⌜ Wrote (now (out .entry)) at (debugLine (maybeDebug debug)) (now (out .exit)) r ⌝ }
+pub fn put_debug(out: &mut [u8], at: usize, debug: MaybeDebug) -> Put
+    ensures { λ r. ⌜ PutsLine (now (out .entry)) at (debugLine (maybeDebug debug)) (now (out .exit)) r ⌝ }
 {
     match debug {
         MaybeDebug::None => put_no_debug(out, at),
@@ -59,17 +53,15 @@ pub fn put_debug(out: &mut [u8], at: usize, debug: MaybeDebug) -> usize
     }
 }
 
-pub fn put_end(out: &mut [u8], at: usize) -> usize
-    requires { ⌜ at + lineRoom ≤ length (now out) ⌝ }
-    ensures { λ r. ⌜ Wrote (now (out .entry)) at endLine (now (out .exit)) r ⌝ }
+pub fn put_end(out: &mut [u8], at: usize) -> Put
+    ensures { λ r. ⌜ PutsLine (now (out .entry)) at endLine (now (out .exit)) r ⌝ }
 {
-    put_bytes(out, at, b"end\n")
+    put_text(out, at, b"end\n")
 }
 
 // A refusal: its number, and its values, or a dash if it has none.
-pub fn put_refused(out: &mut [u8], at: usize, e: ContainerError) -> usize
-    requires { ⌜ at + lineRoom ≤ length (now out) ⌝ }
-    ensures { λ r. ⌜ Wrote (now (out .entry)) at (refusedLine (faultOf e)) (now (out .exit)) r ⌝ }
+pub fn put_refused(out: &mut [u8], at: usize, e: ContainerError) -> Put
+    ensures { λ r. ⌜ PutsLine (now (out .entry)) at (refusedLine (faultOf e)) (now (out .exit)) r ⌝ }
 {
     let number = e.number() as u64;
     let values = e.values();

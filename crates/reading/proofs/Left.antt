@@ -1,20 +1,20 @@
 -- What is left of a section behind some of its bytes; and the law that a caller's walk over a table gives the table.
 use mathlib.Core.Path.{_≡_, refl, sym, ap, _∙_}
-use mathlib.Core.Bool.{false}
+use mathlib.Core.Bool.{Bool, true, false, cond}
 use mathlib.Core.List.{List, [], _∷_}
 use Prim.Native.Nat.{ℕ, zero, suc, _+_, _-_, _≤_}
 use native.Mathlib.Decide.{decLe}
 use native.Mathlib.Omega.{arith}
 use lib.ListN.{length, drop, length-append, length-drop}
-use lib.Dec.{eqb}
+use lib.Dec.{eqb, ltb}
 use lib.Seq.{drop-drop, drop-at, drop-length, drop-nil}
 use borrow.Author.Tests.{ne-eqb}
-use Rattle.reading.specs.Reader.{Read, fault, got, Reader, next, _>>=_ as _>>=r_, give, left, many}
+use Rattle.reading.specs.Reader.{Read, fault, got, Reader, next, _>>=_ as _>>=r_, give, left, many, counted, countedOrNone}
 use Rattle.reading.specs.Answer.{found, _>>=_, itemOf}
 use Rattle.reading.specs.Places.{leftOf, nextOf, stepOf, onNext, walked}
 use Rattle.reading.specs.declared.Table.{Table}
 use Rattle.reading.proofs.Reading.{both}
-use Rattle.reading.proofs.Local.{Taken, Local, local-give}
+use Rattle.reading.proofs.Local.{Taken, Local, local-give, local-number}
 
 pub record LeftOf (whole s : List ℕ) : Type 0 where
   pub behind : ℕ
@@ -78,6 +78,16 @@ stays-left whole = record { leaves = λ s n t w e. let z : s ≡ t = cc in rw z 
 pub stays-many : {A : Type 0} (whole : List ℕ) (n : ℕ) {r : Reader A} → Stays whole r → Stays whole (many n r)
 stays-many whole zero h = stays-local whole (local-give [])
 stays-many whole (suc n) h = stays-bind whole h λ a. stays-bind whole (stays-many whole n h) λ xs. stays-local whole (local-give (a ∷ xs))
+
+pub stays-counted : {A : Type 0} (whole : List ℕ) {r : Reader A} → Stays whole r → Stays whole (counted r)
+stays-counted whole h = stays-bind whole (stays-local whole (local-number 2)) λ n. stays-many whole n h
+
+pub stays-counted-or-none : {A : Type 0} (whole : List ℕ) {r : Reader A} → Stays whole r → Stays whole (countedOrNone r)
+stays-counted-or-none {A} whole {r} h = record { leaves = λ s xs t w e. go (ltb (length s) 2) s xs t w e }
+  where
+    go : (few : Bool) (s : List ℕ) (xs : List A) (t : List ℕ) → LeftOf whole s → cond few (got [] s) (counted r s) ≡ got xs t → LeftOf whole t
+    go true s xs t w e = let z : s ≡ t = cc in rw z at w
+    go false s xs t w e = stays-counted whole h .leaves s xs t w e
 
 -- a caller's walk over a table, step by step, gives what reading the table gives
 pub walk-is-table : {A : Type 0} (whole : List ℕ) (r : Reader A) → Stays whole r → (n : ℕ) (t : Table) → t .count ≡ n → walked n r whole t ≡ itemOf (many n r (drop (t .at) whole))

@@ -9,3 +9,5 @@ pub mod Sizes
 pub mod Local
 pub mod Left
 pub mod From
+pub mod Given
+pub mod Driven

@@ -19,6 +19,15 @@ abbrev pub Reads : {A : Type 0} → Reader A → List ℕ → ℕ → Step A →
 Reads r s at (stops f) = r (drop at s) ≡ fault f
 Reads r s at (item a m) = (m ≤ length s) × (r (drop at s) ≡ got a (drop m s))
 
+-- what `r` gives at the place `at` of `s`: the fault that it stops with; or the item, and the place where the bytes begin that it leaves
+
+abbrev pub stepGiven : {A : Type 0} → List ℕ → Read A → Step A
+stepGiven s (fault f) = stops f
+stepGiven s (got a rest) = item a (length s - length rest)
+
+unfoldable pub stepAt : {A : Type 0} → Reader A → List ℕ → ℕ → Step A
+stepAt r s at = stepGiven s (r (drop at s))
+
 -- an item passed over: it stops with a fault, or ends at `m`, whatever it is
 pub data Way : Type 0 where
   stopsBy : Fault → Way
@@ -27,6 +36,15 @@ pub data Way : Type 0 where
 abbrev pub Goes : {A : Type 0} → Reader A → List ℕ → ℕ → Way → Type 0
 Goes r s at (stopsBy f) = r (drop at s) ≡ fault f
 Goes {A} r s at (onTo m) = (m ≤ length s) × ((a : A) × (r (drop at s) ≡ got a (drop m s)))
+
+-- where `r` goes from the place `at` of `s`: the same without the item
+
+abbrev pub wayGiven : {A : Type 0} → List ℕ → Read A → Way
+wayGiven s (fault f) = stopsBy f
+wayGiven s (got a rest) = onTo (length s - length rest)
+
+unfoldable pub wayAt : {A : Type 0} → Reader A → List ℕ → ℕ → Way
+wayAt r s at = wayGiven s (r (drop at s))
 
 -- what a table still has to give, from its place on
 abbrev pub leftOf : {A : Type 0} → Reader A → List ℕ → Table → Read (List A)
@@ -62,6 +80,16 @@ onNext (entry a u) go = go u >>= λ xs. found (a ∷ xs)
 abbrev pub driven : {A : Type 0} → (Table → Next A) → ℕ → Table → Got (List A)
 driven step zero t = found []
 driven step (suc n) t = onNext (step t) (driven step n)
+
+-- from a table on, as many steps as it has entries give them, and more steps give no more
+abbrev pub Gives : {A : Type 0} → (Table → Next A) → Table → List A → Type 0
+Gives step t xs = (n : ℕ) → t .count ≤ n → driven step n t ≡ found xs
+
+-- the steps, driven from the table that `start` answers, give `xs`
+pub record GivesFrom {A : Type 0} (start : Got Table) (step : Table → Next A) (xs : List A) : Type 0 where
+  pub first : Table
+  pub starts : start ≡ found first
+  pub gives : Gives step first xs
 
 abbrev pub walked : {A : Type 0} → ℕ → Reader A → List ℕ → Table → Got (List A)
 walked n r s t = driven (stepOf r s) n t

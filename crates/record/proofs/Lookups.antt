@@ -16,7 +16,9 @@ use Rattle.base.specs.Section.{placeIn}
 use Rattle.type_section.specs.declared.TypeCounts.{TypeCounts}
 use Rattle.debug_tables.specs.declared.DebugCounts.{DebugCounts}
 use Rattle.debug_tables.specs.declared.MaybeDebug.the-variants as maybe-debug
-use Rattle.debug_section.specs.Lookups.{debugTablesAt}
+use Rattle.debug_section.specs.Lookups.{debugTablesAt, startsAt}
+use Rattle.debug_tables.specs.declared.DebugTables.{DebugTables}
+use Rattle.record.specs.Starts.{debugStartsIn}
 use Rattle.record.specs.Answers.{containerIn}
 use Rattle.record.specs.Absence.{absentFault}
 use Rattle.record.specs.declared.Container.{Container}
@@ -43,3 +45,16 @@ module _ {A : Type 0} (f : List ℕ) (c : Container) (go : Tables Place → Got 
       → y ≡ (debugIn byPlace f (containerIn c) >>= go)
   unfolding debugIn
   debug-present h a = rw h a
+
+-- the starts of the debug tables
+module _ (f : List ℕ) (c : Container) where
+  pub starts-absent : {e : Fault} → c .debug ≡ maybe-debug.None → e ≡ absentFault noDebug f → refused e ≡ debugStartsIn f (containerIn c)
+  starts-absent h a = rw h (ap refused a ∙ short (leb (length f) limit))
+    where
+      short : (b : Bool) → _≡_ {A = Got DebugTables} (refused (cond b noDebug tooLong)) (need b tooLong >> refused noDebug)
+      short true = refl
+      short false = refl
+
+  pub starts-present : {k : DebugCounts} {y : Got DebugTables} → c .debug ≡ maybe-debug.Some k
+      → y ≡ startsAt f (placeIn (c .header .sections .«debug_section»)) → y ≡ debugStartsIn f (containerIn c)
+  starts-present h a = rw h a

@@ -3,7 +3,7 @@
 ghost use mathlib.Core.Path.{_≡_};
 ghost use Rattle.format.specs.Lookups.{runAnswers, debugAnswers};
 ghost use Rattle.base.specs.Error.{faultOf};
-ghost use Rattle.base.specs.Section.{placeIn, partFrom, PartWithin, bytesOr};
+ghost use Rattle.base.specs.Section.{placeIn, partFrom, PartWithin, bytesOr, startFrom};
 ghost use lib.ListN.{length};
 ghost use Rattle.task_table.specs.Answers.{taskFrom, programFrom};
 ghost use Rattle.type_entries.specs.Answers.{sizeFrom};
@@ -11,15 +11,17 @@ ghost use Rattle.type_section.specs.Answers.{fbTypeFrom, fieldFrom, arrayFrom, 
 ghost use Rattle.constant_pool.specs.Answers.{constFrom, ConstEnds, u32From, u64From, i32From, i64From, widthFrom};
 ghost use Rattle.code_section.specs.Answers.{funcFrom};
 ghost use Rattle.line_map.specs.Answers.{lineFrom};
-ghost use Rattle.debug_section.specs.Answers.{variableFrom, functionNameFrom, layoutFrom, sourceFrom, enumerationFrom, valueFrom};
+ghost use Rattle.debug_section.specs.Answers.{startsFrom, variableFrom, functionNameFrom, layoutFrom, sourceFrom, enumerationFrom, valueFrom};
 ghost use Rattle.record.specs.Answers.{containerIn, enumerationWith};
 ghost use Rattle.record.specs.Absence.{absentFault};
+ghost use Rattle.record.specs.Starts.{tasksStartIn, programsStartIn, fbTypesStartIn, arraysStartIn, userFbsStartIn, constantsStartIn, functionsStartIn, debugStartsIn};
 use base::error::ContainerError;
 use base::id_types::ConstantIndex;
 use base::id_types::FunctionId;
 use base::id_types::SourceFileId;
 use base::section::FILE_LIMIT;
 use base::section::PartAnswer;
+use base::section::StartAnswer;
 use code_section::FuncAnswer;
 use constant_pool::ConstAnswer;
 use constant_pool::I32Answer;
@@ -31,6 +33,7 @@ use debug_section::EnumerationAnswer;
 use debug_section::FunctionNameAnswer;
 use debug_section::LayoutAnswer;
 use debug_section::SourceAnswer;
+use debug_section::StartsAnswer;
 use debug_section::ValueAnswer;
 use debug_section::VariableAnswer;
 use debug_tables::MaybeDebug;
@@ -79,11 +82,38 @@ impl Container {
         task_table::task(file, self.header.sections.task_section, index)
     }
 
+    // Where a walk over the tasks starts.
+    pub fn tasks(self, file: &[u8]) -> StartAnswer
+        ensures { λ r. ⌜ startFrom r ≡ tasksStartIn (now (file .entry)) (containerIn self) ⌝ }
+    {
+        task_table::tasks(file, self.header.sections.task_section)
+    }
+
     // A program instance.
     pub fn program(self, file: &[u8], index: u16) -> ProgramAnswer
         ensures { λ r. ⌜ programFrom r ≡ runAnswers (now (file .entry)) (containerIn self) .program index ⌝ }
     {
         task_table::program(file, self.header.sections.task_section, index)
+    }
+
+    // Where a walk over the program instances starts.
+    pub fn programs(self, file: &[u8]) -> StartAnswer
+        ensures { λ r. ⌜ startFrom r ≡ programsStartIn (now (file .entry)) (containerIn self) ⌝ }
+    {
+        task_table::programs(file, self.header.sections.task_section)
+    }
+
+    // Where a walk over the FB types starts.
+    pub fn fb_types(self, file: &[u8]) -> StartAnswer
+        ensures { λ r. ⌜ startFrom r ≡ fbTypesStartIn (now (file .entry)) (containerIn self) ⌝ }
+    {
+        let types = self.types;
+        match types {
+            MaybeTypes::None => StartAnswer::Refused(absent(file, ContainerError::NoArray)),
+            MaybeTypes::Some(_) => {
+                type_section::fb_types(file, self.header.sections.type_section)
+            }
+        }
     }
 
     // An FB type: its id and how many fields it has.
@@ -125,6 +155,17 @@ impl Container {
         }
     }
 
+    // Where a walk over the arrays starts.
+    pub fn arrays(self, file: &[u8]) -> StartAnswer
+        ensures { λ r. ⌜ startFrom r ≡ arraysStartIn (now (file .entry)) (containerIn self) ⌝ }
+    {
+        let types = self.types;
+        match types {
+            MaybeTypes::None => StartAnswer::Refused(absent(file, ContainerError::NoArray)),
+            MaybeTypes::Some(_) => type_section::arrays(file, self.header.sections.type_section),
+        }
+    }
+
     // The bytes of an array.
     pub fn array_size(self, file: &[u8], index: u16) -> SizeAnswer
         ensures { λ r. ⌜ sizeFrom r ≡ runAnswers (now (file .entry)) (containerIn self) .arraySize index ⌝ }
@@ -149,6 +190,26 @@ impl Container {
                 type_section::user_fb(file, self.header.sections.type_section, index)
             }
         }
+    }
+
+    // Where a walk over the user FBs starts.
+    pub fn user_fbs(self, file: &[u8]) -> StartAnswer
+        ensures { λ r. ⌜ startFrom r ≡ userFbsStartIn (now (file .entry)) (containerIn self) ⌝ }
+    {
+        let types = self.types;
+        match types {
+            MaybeTypes::None => StartAnswer::Refused(absent(file, ContainerError::NoArray)),
+            MaybeTypes::Some(_) => {
+                type_section::user_fbs(file, self.header.sections.type_section)
+            }
+        }
+    }
+
+    // Where a walk over the constants starts.
+    pub fn constants(self, file: &[u8]) -> StartAnswer
+        ensures { λ r. ⌜ startFrom r ≡ constantsStartIn (now (file .entry)) (containerIn self) ⌝ }
+    {
+        constant_pool::constants(file, self.header.sections.const_section)
     }
 
     // A constant; a string by its part of the file.
@@ -229,6 +290,17 @@ impl Container {
         )
     }
 
+    // Where a walk over the functions starts.
+    pub fn functions(self, file: &[u8]) -> StartAnswer
+        ensures { λ r. ⌜ startFrom r ≡ functionsStartIn (now (file .entry)) (containerIn self) ⌝ }
+    {
+        code_section::functions(
+            file,
+            self.header.sections.code_section,
+            self.header.runtime.num_functions,
+        )
+    }
+
     // A function's bytecode, by its place in the file.
     pub fn bytecode_part(self, file: &[u8], function_id: FunctionId) -> PartAnswer
         ensures { λ r. ⌜ (partFrom r ≡ runAnswers (now (file .entry)) (containerIn self) .bytecode («function_id» .0)) × PartWithin (now (file .entry)) r ⌝ }
@@ -251,6 +323,19 @@ impl Container {
             self.header.runtime.num_functions,
             function_id,
         )
+    }
+
+    // Where the walks over the debug tables start.
+    pub fn debug_tables(self, file: &[u8]) -> StartsAnswer
+        ensures { λ r. ⌜ startsFrom r ≡ debugStartsIn (now (file .entry)) (containerIn self) ⌝ }
+    {
+        let debug = self.debug;
+        match debug {
+            MaybeDebug::None => StartsAnswer::Refused(absent(file, ContainerError::NoDebug)),
+            MaybeDebug::Some(_) => {
+                debug_section::tables(file, self.header.sections.debug_section)
+            }
+        }
     }
 
     // The source location of a place in a function's bytecode.

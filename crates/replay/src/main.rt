@@ -3,7 +3,7 @@
 use libc::STDERR_FILENO;
 use libc::STDIN_FILENO;
 use libc::STDOUT_FILENO;
-use table_lines::Put;
+use text::Put;
 ghost use Prim.Native.Nat.{_<_};
 
 // A length has two bytes.

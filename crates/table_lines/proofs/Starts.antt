@@ -4,46 +4,49 @@ use mathlib.Core.Path.{_≡_, refl, sym, ap, _∙_}
 use mathlib.Core.Bool.{Bool, true, false, cond}
 use mathlib.Core.List.{List, [], _∷_, _++_, map}
 use native.Mathlib.Omega.{arith}
-use lib.Dec.{eqb}
+use mathlib.Core.Option.{Option, none, some}
+use lib.Dec.{eqb, leb}
 use lib.ListN.{length, drop}
 use borrow.Author.Tests.{eqb-true}
 use Rattle.reading.specs.Reader.{Read, fault, got, Reader, many}
-use Rattle.reading.specs.Answer.{Got, refused, found, _>>=_, itemOf}
+use Rattle.reading.specs.Fault.{Fault}
+use Rattle.reading.specs.Answer.{Got, refused, found, _>>=_, _>>_, need, itemOf}
 use Rattle.reading.specs.Places.{Next, ends, faulty, entry, nextOf, stepOf, onNext, walked}
 use Rattle.reading.specs.declared.Table.{Table}
 use Rattle.reading.proofs.Reading.{both}
-use Rattle.format.specs.Parts.{Place, cut, byPlace}
+use Rattle.format.specs.Faults.{tooLong, noArray, noDebug}
+use Rattle.format.specs.Parts.{limit, Place, cut, byPlace}
 use Rattle.format.specs.Tasks.{task, program, taskTable}
 use Rattle.format.specs.Types.{Field, field, FbType, fbType, array, userFb, TypeTables, typeTables}
 use Rattle.format.specs.Constants.{Constant, onConstant, constant, constants}
 use Rattle.format.specs.Code.{Code, function, codeOf}
-use Rattle.format.specs.Debug.{line}
-use Rattle.format.specs.Record.{taskCounts}
-use Rattle.format.specs.Lookups.{readAt}
+use Rattle.format.specs.Debug.{line, Tables}
+use Rattle.format.specs.Record.{taskCounts, TypeCounts, DebugCounts, Container}
+use Rattle.format.specs.Lookups.{readAt, typesBy, constantsIn, debugBy, debugIn}
 use Rattle.format.proofs.Answers.{never, same-found, steps, item-got}
 use Rattle.format.proofs.PlacesHold.{constants-at}
 use Rattle.base.specs.Section.{stepBy}
 use Rattle.base.proofs.FileLookups.{step-count}
-use Rattle.task_table.specs.Lookups.{taskEntries, programEntries, tasksAt, programsAt}
+use Rattle.task_table.specs.Lookups.{taskEntries, programEntries}
 use Rattle.task_table.proofs.Tables as task-table
 use Rattle.type_entries.specs.Starts.{fbTypesStart, arraysStart, userFbsStart, fieldsStart}
-use Rattle.type_section.specs.Lookups.{FbTypeEntry, withFields, fbTypeStepOf, fbTypesAt, arraysAt, userFbsAt}
+use Rattle.type_section.specs.Lookups.{FbTypeEntry, withFields, fbTypeStepOf, fbTypesAt}
 use Rattle.type_section.specs.Laws.{onFbType, fbTypesWalked}
 use Rattle.type_section.proofs.Walking as type-section
-use Rattle.constant_pool.specs.Lookups.{poolAt, startAt}
+use Rattle.constant_pool.specs.Lookups.{poolAt}
 use Rattle.constant_pool.proofs.Walks as constant-pool
-use Rattle.code_section.specs.Lookups.{directoryAt}
 use Rattle.code_section.proofs.Entries as code-section
-use Rattle.debug_section.specs.Lookups.{startsAt}
+use Rattle.debug_section.specs.Lookups.{debugTablesAt, startsAt}
 use Rattle.debug_section.proofs.Parts.{tables-refused, tables-stand}
 use Rattle.debug_tables.specs.declared.DebugTables.{DebugTables}
 use Rattle.debug_walks.specs.Steps.{debugStepAt}
 use Rattle.debug_walks.proofs.Walks as debug-walks
+use Rattle.record.specs.Starts.{tasksStartIn, programsStartIn, fbTypesStartIn, arraysStartIn, userFbsStartIn, constantsStartIn, functionsStartIn, debugStartsBy}
 use Rattle.entry_lines.specs.Lines.{taskLine, programLine, fbTypeLine, fieldLine, arrayLine, userFbLine, constantLine, functionLine, lineLine}
 use Rattle.listing.specs.Listing.{each, indexedFrom, fbTypeLines}
 use Rattle.line_steps.specs.Steps.{lined}
 use Rattle.line_steps.specs.declared.Listed.the-variants as listed
-use Rattle.table_lines.specs.Walks.{onStep, walkText, entriesText, linesAt, nextFbTypeText}
+use Rattle.table_lines.specs.Walks.{onStep, walkText, entriesText, linesStartIn, fbEntriesText}
 use Rattle.table_lines.specs.Tables.{textOf, tasksText, programsText, fbTypesText, arraysText, userFbsText, constantsText, functionsText, linesText}
 use Rattle.table_lines.proofs.Texts.{each-indexed, linesOf, driven-text, read-there, start-text}
 
@@ -56,36 +59,63 @@ functions-read n s c e =
     let z : m .item ≡ c .functions = cc (m .second) in
     ap itemOf (m .first) ∙ ap found z
 
-module _ (f : List ℕ) (p : Place) where
-  pub tasks-start : textOf (tasksAt f p) (entriesText listed.Tasks f p) ≡ tasksText f p
+-- where a section is absent there is no text; where it is not, its own law holds
+absent-text : {A B C : Type 0} (z : Bool) (d e : Fault) (k : A → Got B) (walk : B → List ℕ) (lines : C → List ℕ)
+    → textOf ((need z d >> refused e) >>= k) walk ≡ textOf (need z d >> refused e) lines
+absent-text true d e k walk lines = refl
+absent-text false d e k walk lines = refl
+
+module _ (f : List ℕ) (p : Place) (start : TypeTables → Table) (walk : Table → List ℕ) (lines : TypeTables → List ℕ) where
+  types-by : textOf (readAt f p typeTables >>= λ t. found (start t)) walk ≡ textOf (readAt f p typeTables) lines
+      → (x : Option TypeCounts) → textOf (typesBy f p x >>= λ t. found (start t)) walk ≡ textOf (typesBy f p x) lines
+  types-by h none = absent-text (leb (length f) limit) tooLong noArray (λ t. found (start t)) walk lines
+  types-by h (some c) = h
+
+module _ (f : List ℕ) (r : Container) where
+  pub tasks-start : textOf (tasksStartIn f r) (entriesText listed.Tasks f (r .header .directory .tasks)) ≡ tasksText f r
   tasks-start =
+      let p = r .header .directory .tasks in
       start-text f p taskTable task (λ t. taskEntries (taskCounts t)) (λ t. t .tasks) (λ i. taskLine) _ (λ t. each-indexed 0 taskLine (t .tasks))
       (λ t e h. let k = item-got (taskTable (cut f p)) t h in task-table.laws .tasks (cut f p) t (k .0) (k .1))
 
-  pub programs-start : textOf (programsAt f p) (entriesText listed.Programs f p) ≡ programsText f p
+  pub programs-start : textOf (programsStartIn f r) (entriesText listed.Programs f (r .header .directory .tasks)) ≡ programsText f r
   programs-start =
+      let p = r .header .directory .tasks in
       start-text f p taskTable program (λ t. programEntries (taskCounts t)) (λ t. t .programs) (λ i. programLine) _ (λ t. each-indexed 0 programLine (t .programs))
       (λ t e h. let k = item-got (taskTable (cut f p)) t h in task-table.laws .programs (cut f p) t (k .0) (k .1))
 
-  pub arrays-start : textOf (arraysAt f p) (entriesText listed.Arrays f p) ≡ arraysText f p
+  pub arrays-start : textOf (arraysStartIn f r) (entriesText listed.Arrays f (r .header .directory .types)) ≡ arraysText f r
   arrays-start =
-      start-text f p typeTables array arraysStart (λ t. t .arrays) arrayLine _ (λ t. refl) (λ t e h. type-section.laws .arrays (cut f p) t h)
+      let p = r .header .directory .types in
+      types-by f p arraysStart (entriesText listed.Arrays f p) _
+      (start-text f p typeTables array arraysStart (λ t. t .arrays) arrayLine _ (λ t. refl) (λ t e h. type-section.laws .arrays (cut f p) t h))
+      (r .types)
 
-  pub user-fbs-start : textOf (userFbsAt f p) (entriesText listed.UserFbs f p) ≡ userFbsText f p
+  pub user-fbs-start : textOf (userFbsStartIn f r) (entriesText listed.UserFbs f (r .header .directory .types)) ≡ userFbsText f r
   user-fbs-start =
-      start-text f p typeTables userFb userFbsStart (λ t. t .userFbs) (λ i. userFbLine) _ (λ t. each-indexed 0 userFbLine (t .userFbs))
-      (λ t e h. type-section.laws .userFbs (cut f p) t h)
+      let p = r .header .directory .types in
+      types-by f p userFbsStart (entriesText listed.UserFbs f p) _
+      (start-text f p typeTables userFb userFbsStart (λ t. t .userFbs) (λ i. userFbLine) _ (λ t. each-indexed 0 userFbLine (t .userFbs)) (λ t e h. type-section.laws .userFbs (cut f p) t h))
+      (r .types)
 
-  pub functions-start : (n : ℕ) → textOf (directoryAt f p n) (entriesText listed.Functions f p) ≡ functionsText f p n
-  functions-start n =
+  pub functions-start : textOf (functionsStartIn f r) (entriesText listed.Functions f (r .header .directory .code)) ≡ functionsText f r
+  functions-start =
+      let p = r .header .directory .code in
+      let n = r .header .runtime .functions in
       start-text f p (codeOf n) function (λ c. record { at = 0; count = n }) (λ c. c .functions) (λ i. functionLine) _ (λ c. each-indexed 0 functionLine (c .functions))
       (λ c e h. code-section.laws .walk (cut f p) n ∙ functions-read n (cut f p) c h)
 
-  pub lines-start : textOf (linesAt f p) (entriesText listed.Lines f p) ≡ linesText f p
-  lines-start = go (startsAt f p) refl
+-- Lines
+
+abbrev linesLines : Tables Place → List ℕ
+linesLines t = each lineLine (t .lines)
+
+module _ (f : List ℕ) (p : Place) where
+  lines-there : textOf (startsAt f p >>= λ t. found (t .lines)) (entriesText listed.Lines f p) ≡ textOf (debugTablesAt f p) linesLines
+  lines-there = go (startsAt f p) refl
     where
-      go : (x : Got DebugTables) → startsAt f p ≡ x → textOf (x >>= λ t. found (t .lines)) (entriesText listed.Lines f p) ≡ linesText f p
-      go (refused g) e = ap (λ x. textOf x (λ t. each lineLine (t .lines))) (tables-refused f p (sym e))
+      go : (x : Got DebugTables) → startsAt f p ≡ x → textOf (x >>= λ t. found (t .lines)) (entriesText listed.Lines f p) ≡ textOf (debugTablesAt f p) linesLines
+      go (refused g) e = ap (λ x. textOf x linesLines) (tables-refused f p (sym e))
       go (found u) e =
           let k = tables-stand f p (sym e) in
           let w = debug-walks.laws .walks f p (k .tables) (k .reads) in
@@ -94,7 +124,15 @@ module _ (f : List ℕ) (p : Place) where
           ap (λ (v : DebugTables). entriesText listed.Lines f p (v .lines)) (sym z)
           ∙ driven-text (debugStepAt f p line) (λ i. lineLine) 0 (t .count) t (k .tables .lines) (w .lines (t .count) (omega arith))
           ∙ sym (each-indexed 0 lineLine (k .tables .lines))
-          ∙ ap (λ x. textOf x (λ t. each lineLine (t .lines))) (sym (k .reads))
+          ∙ ap (λ x. textOf x linesLines) (sym (k .reads))
+
+  lines-by : (x : Option DebugCounts) → textOf (debugStartsBy f p x >>= λ t. found (t .lines)) (entriesText listed.Lines f p) ≡ textOf (debugBy (byPlace p) f p x) linesLines
+  lines-by none = absent-text (leb (length f) limit) tooLong noDebug (λ t. found (t .lines)) (entriesText listed.Lines f p) linesLines
+  lines-by (some c) = lines-there
+
+pub lines-start : (f : List ℕ) (r : Container) → textOf (linesStartIn f r) (entriesText listed.Lines f (r .header .directory .debug)) ≡ linesText f r
+unfolding debugIn
+lines-start f r = lines-by f (r .header .directory .debug) (r .debug)
 
 -- Constants: the walk has a string by its place
 
@@ -111,12 +149,15 @@ module _ (f : List ℕ) where
   text-placed (refused e) = refl
   text-placed (found cs) = placed-lines 0 cs
 
-  module _ (p : Place) where
-    by-place : constantsText f p ≡ textOf (poolAt f p) (indexedFrom 0 (placedLine f))
-    by-place = ap (λ (x : Got (List (Constant (List ℕ)))). textOf x (indexedFrom 0 constantLine)) (constants-at f p) ∙ text-placed (poolAt f p)
+  module _ (r : Container) where
+    by-place : constantsText f r ≡ textOf (constantsIn byPlace f r) (indexedFrom 0 (placedLine f))
+    by-place =
+        let p = r .header .directory .constants in
+        ap (λ (x : Got (List (Constant (List ℕ)))). textOf x (indexedFrom 0 constantLine)) (constants-at f p) ∙ text-placed (poolAt f p)
 
-    pub constants-start : textOf (startAt f p) (entriesText listed.Constants f p) ≡ constantsText f p
+    pub constants-start : textOf (constantsStartIn f r) (entriesText listed.Constants f (r .header .directory .constants)) ≡ constantsText f r
     constants-start =
+        let p = r .header .directory .constants in
         start-text f p (constants (byPlace p)) (constant (byPlace p)) (λ cs. record { at = 2; count = length cs }) (λ cs. cs) (placedLine f) (indexedFrom 0 (placedLine f)) (λ cs. refl)
         (λ cs e h. constant-pool.laws .walk f p (record { at = 2; count = length cs }) (ap (λ x. x >>= λ ds. found (record { at = 2; count = length ds })) e) .gives ∙ e)
         ∙ sym by-place
@@ -161,7 +202,7 @@ fb-types-text s i zero t bs e = let z : [] ≡ bs = same-found e in rw (← z)
 fb-types-text s i (suc n) t bs e = go (fb-types-text s (suc i) n) (stepOf fbType s t) e
   where
     go : ((u : Table) (cs : List FbType) → fbTypesWalked n s u ≡ found cs → fbTypesBy (fbTypeStepOf s) (stepOf field s) (suc i) n u ≡ each fbTypeLines cs) → (x : Next FbType)
-        → onFbType s (withFields t x) (fbTypesWalked n s) ≡ found bs
+        → onFbType (stepOf field s) (withFields t x) (fbTypesWalked n s) ≡ found bs
         → onStep (lined (withFields t x) (fbTypeBy (stepOf field s))) (λ l u. l ++ fbTypesBy (fbTypeStepOf s) (stepOf field s) (suc i) n u) ≡ each fbTypeLines bs
     go rec ends e = let z : [] ≡ bs = same-found e in rw (← z)
     go rec (faulty f) e = never e
@@ -175,14 +216,18 @@ fb-types-text s i (suc n) t bs e = go (fb-types-text s (suc i) n) (stepOf fbType
         rw (← z, rec u (m .item) (m .first), w, l)
 
 module _ (f : List ℕ) (p : Place) where
-  pub fb-types-start : textOf (fbTypesAt f p) (λ t. walkText 0 (nextFbTypeText f p) (t .count) t) ≡ fbTypesText f p
-  fb-types-start = go (readAt f p typeTables) refl
+  fb-types-there : textOf (fbTypesAt f p) (fbEntriesText f p) ≡ textOf (readAt f p typeTables) (λ t. each fbTypeLines (t .fbTypes))
+  fb-types-there = go (readAt f p typeTables) refl
     where
       go : (x : Got TypeTables) → readAt f p typeTables ≡ x
-          → textOf (x >>= λ t. found (fbTypesStart t)) (λ t. walkText 0 (nextFbTypeText f p) (t .count) t) ≡ textOf x (λ t. each fbTypeLines (t .fbTypes))
+          → textOf (x >>= λ t. found (fbTypesStart t)) (fbEntriesText f p) ≡ textOf x (λ t. each fbTypeLines (t .fbTypes))
       go (refused g) e = refl
       go (found a) e =
           let h = read-there f p typeTables a e in
           let t = fbTypesStart a in
           ap (λ (x : Got Place). fbTypesBy (λ u. withFields u (stepBy f x fbType u)) (stepBy f x field) 0 (t .count) t) (h .part)
           ∙ fb-types-text (cut f p) 0 (t .count) t (a .fbTypes) (type-section.laws .fbTypes (cut f p) a (h .item))
+
+pub fb-types-start : (f : List ℕ) (r : Container) → textOf (fbTypesStartIn f r) (fbEntriesText f (r .header .directory .types)) ≡ fbTypesText f r
+fb-types-start f r =
+    let p = r .header .directory .types in types-by f p fbTypesStart (fbEntriesText f p) _ (fb-types-there f p) (r .types)

@@ -6,8 +6,10 @@ use Rattle.reading.specs.Answer.{Got, found, _>>=_}
 use Rattle.reading.specs.Places.{Next, ends, faulty, entry}
 use Rattle.reading.specs.declared.Table.{Table}
 use Rattle.format.specs.Parts.{Place}
-use Rattle.type_section.specs.Lookups.{FbTypeEntry, nextFbTypeAt}
-use Rattle.debug_section.specs.Lookups.{startsAt}
+use Rattle.format.specs.Record.{Container}
+use Rattle.format.specs.Lookups.{FbTypeHead}
+use Rattle.type_section.specs.Lookups.{nextFbTypeAt}
+use Rattle.record.specs.Starts.{debugStartsIn}
 use Rattle.entry_lines.specs.Lines.{fbTypeLine}
 use Rattle.line_steps.specs.Steps.{lined, nextLineAt}
 use Rattle.line_steps.specs.declared.Listed.{Listed}
@@ -30,12 +32,16 @@ abbrev pub entriesText : Listed → List ℕ → Place → Table → List ℕ
 entriesText l f p t = walkText 0 (nextLineAt l f p) (t .count) t
 
 -- where a walk over the lines starts
-abbrev pub linesAt : List ℕ → Place → Got Table
-linesAt f p = startsAt f p >>= λ t. found (t .lines)
+abbrev pub linesStartIn : List ℕ → Container → Got Table
+linesStartIn f r = debugStartsIn f r >>= λ t. found (t .lines)
 
 -- an FB type's line is followed by its fields'
-abbrev pub fbTypeText : List ℕ → Place → FbTypeEntry → List ℕ
-fbTypeText f p b = fbTypeLine (b .head) ++ entriesText listed.Fields f p (b .fields)
+abbrev pub fbTypeText : List ℕ → Place → FbTypeHead → Table → List ℕ
+fbTypeText f p head fields = fbTypeLine head ++ entriesText listed.Fields f p fields
 
 abbrev pub nextFbTypeText : List ℕ → Place → ℕ → Table → Next (List ℕ)
-nextFbTypeText f p i t = lined (nextFbTypeAt f p t) (fbTypeText f p)
+nextFbTypeText f p i t = lined (nextFbTypeAt f p t) λ b. fbTypeText f p (b .head) (b .fields)
+
+-- what a walk over the FB types gives
+abbrev pub fbEntriesText : List ℕ → Place → Table → List ℕ
+fbEntriesText f p t = walkText 0 (nextFbTypeText f p) (t .count) t

@@ -1,40 +1,27 @@
 // The text of whole tables of a file, in a buffer that the caller lends. Each function puts the lines of a table's entries, one behind the other, at
-// the place `at`, and answers the place behind them; it puts none where the section is refused. It wants room for one line more than
-// it puts.
-ghost use Prim.Native.Nat.{_+_, _*_, _≤_};
+// the place `at`, and answers the place behind them, or that they do not fit; it puts none where the section is absent or refused.
 ghost use mathlib.Core.Path.{_≡_};
-ghost use lib.ListN.{length};
 ghost use Rattle.base.specs.Section.{placeIn, startFrom};
-ghost use Rattle.entry_lines.specs.Lines.{lineRoom};
-ghost use Rattle.line_steps.specs.Steps.{roomOf};
-ghost use Rattle.table_lines.specs.Walks.{entriesText, linesAt};
+ghost use Rattle.text.specs.Text.{Puts};
+ghost use Rattle.type_entries.specs.Answers.{fbTypeHeadIn};
+ghost use Rattle.record.specs.Answers.{containerIn};
+ghost use Rattle.table_lines.specs.Walks.{entriesText, linesStartIn, fbTypeText, fbEntriesText};
 ghost use Rattle.table_lines.specs.Tables.{textOf, tasksText, programsText, fbTypesText, arraysText, userFbsText, constantsText, functionsText, linesText};
-ghost use Rattle.table_lines.specs.Answers.{Puts};
 ghost use Rattle.table_lines.specs.Laws.{Laws};
 use base::section::Section;
 use base::section::StartAnswer;
-use code_section::functions;
-use constant_pool::constants;
 use debug_section::StartsAnswer;
-use debug_section::tables;
 use entry_lines::put_fb_type;
-use line_steps::LINE_ROOM;
 use line_steps::Listed;
 use line_steps::PutNext;
 use line_steps::put_next;
 use reading::Table;
-use task_table::programs;
-use task_table::tasks;
+use record::Container;
+use text::Put;
+use text::put_text;
+use type_entries::FbTypeDescriptor;
 use type_section::FbTypeNext;
-use type_section::arrays;
-use type_section::fb_types;
 use type_section::next_fb_type;
-use type_section::user_fbs;
-
-pub enum Put {
-    NoRoom,
-    At(usize),
-}
 
 // The entries of a table, from its first on.
 fn put_entries(
@@ -45,9 +32,11 @@ fn put_entries(
     listed: Listed,
     first: Table,
 ) -> Put
-    requires { ⌜ at ≤ length (now out) ⌝ }
-    ensures { λ r. ⌜ Puts (now (out .entry)) at (entriesText listed (now (file .entry)) (placeIn section) first) (roomOf listed (now (file .entry))) (now (out .exit)) r ⌝ }
+    ensures { λ r. ⌜ Puts (now (out .entry)) at (entriesText listed (now (file .entry)) (placeIn section) first) (now (out .exit)) r ⌝ }
 {
+    if out.len() < at {
+        return Put::NoRoom;
+    }
     let mut rest = first;
     let mut index: usize = 0;
     let mut next = at;
@@ -74,112 +63,165 @@ fn put_from(
     listed: Listed,
     start: StartAnswer,
 ) -> Put
-    ensures { λ r. ⌜ Puts (now (out .entry)) at (textOf (startFrom start) (entriesText listed (now (file .entry)) (placeIn section))) (roomOf listed (now (file .entry))) (now (out .exit)) r ⌝ }
+    ensures { λ r. ⌜ Puts (now (out .entry)) at (textOf (startFrom start) (entriesText listed (now (file .entry)) (placeIn section))) (now (out .exit)) r ⌝ }
 {
-    if out.len() < at {
-        return Put::NoRoom;
-    }
     match start {
-        StartAnswer::Refused(_) => Put::At(at),
+        StartAnswer::Refused(_) => put_text(out, at, b""),
         StartAnswer::Start(first) => put_entries(out, at, file, section, listed, first),
     }
 }
 
 // The tasks.
-pub fn put_tasks(out: &mut [u8], at: usize, file: &[u8], section: Section) -> Put
-    ensures { λ r. ⌜ Puts (now (out .entry)) at (tasksText (now (file .entry)) (placeIn section)) lineRoom (now (out .exit)) r ⌝ }
+pub fn put_tasks(out: &mut [u8], at: usize, file: &[u8], c: Container) -> Put
+    ensures { λ r. ⌜ Puts (now (out .entry)) at (tasksText (now (file .entry)) (containerIn c)) (now (out .exit)) r ⌝ }
 {
-    let start = tasks(file, section);
-    put_from(out, at, file, section, Listed::Tasks, start)
+    let start = c.tasks(file);
+    put_from(
+        out,
+        at,
+        file,
+        c.header.sections.task_section,
+        Listed::Tasks,
+        start,
+    )
 }
 
 // The program instances.
-pub fn put_programs(out: &mut [u8], at: usize, file: &[u8], section: Section) -> Put
-    ensures { λ r. ⌜ Puts (now (out .entry)) at (programsText (now (file .entry)) (placeIn section)) lineRoom (now (out .exit)) r ⌝ }
+pub fn put_programs(out: &mut [u8], at: usize, file: &[u8], c: Container) -> Put
+    ensures { λ r. ⌜ Puts (now (out .entry)) at (programsText (now (file .entry)) (containerIn c)) (now (out .exit)) r ⌝ }
 {
-    let start = programs(file, section);
-    put_from(out, at, file, section, Listed::Programs, start)
+    let start = c.programs(file);
+    put_from(
+        out,
+        at,
+        file,
+        c.header.sections.task_section,
+        Listed::Programs,
+        start,
+    )
 }
 
-// The FB types, each followed by its fields.
-pub fn put_fb_types(out: &mut [u8], at: usize, file: &[u8], section: Section) -> Put
-    ensures { λ r. ⌜ Puts (now (out .entry)) at (fbTypesText (now (file .entry)) (placeIn section)) lineRoom (now (out .exit)) r ⌝ }
+// An FB type and its fields.
+fn put_with_fields(
+    out: &mut [u8],
+    at: usize,
+    file: &[u8],
+    section: Section,
+    head: FbTypeDescriptor,
+    fields: Table,
+) -> Put
+    ensures { λ r. ⌜ Puts (now (out .entry)) at (fbTypeText (now (file .entry)) (placeIn section) (fbTypeHeadIn head) fields) (now (out .exit)) r ⌝ }
+{
+    match put_fb_type(out, at, head) {
+        Put::NoRoom => Put::NoRoom,
+        Put::At(n) => put_entries(out, n, file, section, Listed::Fields, fields),
+    }
+}
+
+// The FB types, from the first on.
+fn put_fb_entries(out: &mut [u8], at: usize, file: &[u8], section: Section, first: Table) -> Put
+    ensures { λ r. ⌜ Puts (now (out .entry)) at (fbEntriesText (now (file .entry)) (placeIn section) first) (now (out .exit)) r ⌝ }
 {
     if out.len() < at {
         return Put::NoRoom;
     }
-    match fb_types(file, section) {
-        StartAnswer::Refused(_) => Put::At(at),
-        StartAnswer::Start(first) => {
-            let mut rest = first;
-            let mut next = at;
-            while rest.count > 0 {
-                if out.len() - next < LINE_ROOM {
-                    return Put::NoRoom;
-                }
-                match next_fb_type(file, section, rest) {
-                    FbTypeNext::End => return Put::At(next),
-                    FbTypeNext::Refused(_) => return Put::At(next),
-                    FbTypeNext::Entry(x, fields, more) => {
-                        let behind = put_fb_type(out, next, x);
-                        match put_entries(out, behind, file, section, Listed::Fields, fields) {
-                            Put::NoRoom => return Put::NoRoom,
-                            Put::At(n) => {
-                                next = n;
-                                rest = more;
-                            }
-                        }
+    let mut rest = first;
+    let mut next = at;
+    while rest.count > 0 {
+        match next_fb_type(file, section, rest) {
+            FbTypeNext::End => return Put::At(next),
+            FbTypeNext::Refused(_) => return Put::At(next),
+            FbTypeNext::Entry(head, fields, more) => {
+                match put_with_fields(out, next, file, section, head, fields) {
+                    Put::NoRoom => return Put::NoRoom,
+                    Put::At(n) => {
+                        next = n;
+                        rest = more;
                     }
                 }
             }
-            Put::At(next)
+        }
+    }
+    Put::At(next)
+}
+
+// The FB types, each followed by its fields.
+pub fn put_fb_types(out: &mut [u8], at: usize, file: &[u8], c: Container) -> Put
+    ensures { λ r. ⌜ Puts (now (out .entry)) at (fbTypesText (now (file .entry)) (containerIn c)) (now (out .exit)) r ⌝ }
+{
+    match c.fb_types(file) {
+        StartAnswer::Refused(_) => put_text(out, at, b""),
+        StartAnswer::Start(first) => {
+            put_fb_entries(out, at, file, c.header.sections.type_section, first)
         }
     }
 }
 
 // The arrays, by their indices.
-pub fn put_arrays(out: &mut [u8], at: usize, file: &[u8], section: Section) -> Put
-    ensures { λ r. ⌜ Puts (now (out .entry)) at (arraysText (now (file .entry)) (placeIn section)) lineRoom (now (out .exit)) r ⌝ }
+pub fn put_arrays(out: &mut [u8], at: usize, file: &[u8], c: Container) -> Put
+    ensures { λ r. ⌜ Puts (now (out .entry)) at (arraysText (now (file .entry)) (containerIn c)) (now (out .exit)) r ⌝ }
 {
-    let start = arrays(file, section);
-    put_from(out, at, file, section, Listed::Arrays, start)
+    let start = c.arrays(file);
+    put_from(
+        out,
+        at,
+        file,
+        c.header.sections.type_section,
+        Listed::Arrays,
+        start,
+    )
 }
 
 // The user FBs.
-pub fn put_user_fbs(out: &mut [u8], at: usize, file: &[u8], section: Section) -> Put
-    ensures { λ r. ⌜ Puts (now (out .entry)) at (userFbsText (now (file .entry)) (placeIn section)) lineRoom (now (out .exit)) r ⌝ }
+pub fn put_user_fbs(out: &mut [u8], at: usize, file: &[u8], c: Container) -> Put
+    ensures { λ r. ⌜ Puts (now (out .entry)) at (userFbsText (now (file .entry)) (containerIn c)) (now (out .exit)) r ⌝ }
 {
-    let start = user_fbs(file, section);
-    put_from(out, at, file, section, Listed::UserFbs, start)
+    let start = c.user_fbs(file);
+    put_from(
+        out,
+        at,
+        file,
+        c.header.sections.type_section,
+        Listed::UserFbs,
+        start,
+    )
 }
 
-// The constants, by their indices. A line may have every byte of the file as its kept bytes.
-pub fn put_constants(out: &mut [u8], at: usize, file: &[u8], section: Section) -> Put
-    ensures { λ r. ⌜ Puts (now (out .entry)) at (constantsText (now (file .entry)) (placeIn section)) (2 * length (now (file .entry)) + lineRoom) (now (out .exit)) r ⌝ }
+// The constants, by their indices.
+pub fn put_constants(out: &mut [u8], at: usize, file: &[u8], c: Container) -> Put
+    ensures { λ r. ⌜ Puts (now (out .entry)) at (constantsText (now (file .entry)) (containerIn c)) (now (out .exit)) r ⌝ }
 {
-    let start = constants(file, section);
-    put_from(out, at, file, section, Listed::Constants, start)
+    let start = c.constants(file);
+    put_from(
+        out,
+        at,
+        file,
+        c.header.sections.const_section,
+        Listed::Constants,
+        start,
+    )
 }
 
-// The functions; the directory has `num_functions` of them.
-pub fn put_functions(
-    out: &mut [u8],
-    at: usize,
-    file: &[u8],
-    section: Section,
-    num_functions: u16,
-) -> Put
-    ensures { λ r. ⌜ Puts (now (out .entry)) at (functionsText (now (file .entry)) (placeIn section) «num_functions») lineRoom (now (out .exit)) r ⌝ }
+// The functions.
+pub fn put_functions(out: &mut [u8], at: usize, file: &[u8], c: Container) -> Put
+    ensures { λ r. ⌜ Puts (now (out .entry)) at (functionsText (now (file .entry)) (containerIn c)) (now (out .exit)) r ⌝ }
 {
-    let start = functions(file, section, num_functions);
-    put_from(out, at, file, section, Listed::Functions, start)
+    let start = c.functions(file);
+    put_from(
+        out,
+        at,
+        file,
+        c.header.sections.code_section,
+        Listed::Functions,
+        start,
+    )
 }
 
 // Where a walk over the lines of the debug section starts.
-fn lines(file: &[u8], section: Section) -> StartAnswer
-    ensures { λ r. ⌜ startFrom r ≡ linesAt (now (file .entry)) (placeIn section) ⌝ }
+fn lines(file: &[u8], c: Container) -> StartAnswer
+    ensures { λ r. ⌜ startFrom r ≡ linesStartIn (now (file .entry)) (containerIn c) ⌝ }
 {
-    match tables(file, section) {
+    match c.debug_tables(file) {
         StartsAnswer::Refused(e) => StartAnswer::Refused(e),
         StartsAnswer::Starts(starts) => {
             let first = starts.lines;
@@ -189,11 +231,18 @@ fn lines(file: &[u8], section: Section) -> StartAnswer
 }
 
 // The lines of the debug section.
-pub fn put_lines(out: &mut [u8], at: usize, file: &[u8], section: Section) -> Put
-    ensures { λ r. ⌜ Puts (now (out .entry)) at (linesText (now (file .entry)) (placeIn section)) lineRoom (now (out .exit)) r ⌝ }
+pub fn put_lines(out: &mut [u8], at: usize, file: &[u8], c: Container) -> Put
+    ensures { λ r. ⌜ Puts (now (out .entry)) at (linesText (now (file .entry)) (containerIn c)) (now (out .exit)) r ⌝ }
 {
-    let start = lines(file, section);
-    put_from(out, at, file, section, Listed::Lines, start)
+    let start = lines(file, c);
+    put_from(
+        out,
+        at,
+        file,
+        c.header.sections.debug_section,
+        Listed::Lines,
+        start,
+    )
 }
 
 // The claim of `specs/Laws.antt` holds. There is no code: the contract makes the check prove it.

@@ -9,17 +9,20 @@ use Rattle.reading.specs.Fault.{Fault, shortInput}
 use Rattle.reading.specs.Numbers.{leAt}
 use Rattle.reading.specs.Reader.{Read, fault, got, next, u16, give, many}
 use Rattle.reading.specs.Answer.{Got, refused, found, _>>=_, itemOf}
-use Rattle.reading.specs.Places.{Step, Reads, onTo, Goes, Holds}
+use Rattle.reading.specs.Places.{Step, Reads, onTo, Goes, Holds, GivesFrom}
 use Rattle.reading.specs.declared.Table.{Table}
 use Rattle.reading.proofs.Reading.{both, number-at}
 use Rattle.reading.proofs.Width.{Needs, width-number, needs-none, needs-bind, fixed-number, fixed-many, fixed-at, needs-at, fixed-width}
 use Rattle.reading.proofs.Tables.{answerBy, many-length, holds-at, reaches, holds-width, holds-found, holds-fits, holds-out, at-picked}
 use Rattle.reading.proofs.Left.{stays-local, walk-gives}
 use Rattle.format.specs.Faults.{noEntry}
+use Rattle.format.specs.Parts.{Place, cut}
 use Rattle.format.specs.Tasks.{Task, task, Program, program, TaskTable, taskTable}
 use Rattle.format.specs.Record.{TaskCounts, taskCounts}
-use Rattle.format.proofs.Answers.{never, same-found, refused-then}
-use Rattle.task_table.specs.Lookups.{taskCountsInside, taskEntries, programEntries, taskInside, programInside}
+use Rattle.format.specs.Lookups.{readAt}
+use Rattle.format.proofs.Answers.{never, same-found, refused-then, item-got}
+use Rattle.base.proofs.FileWalks.{opened, walk-gives-from}
+use Rattle.task_table.specs.Lookups.{taskCountsInside, taskEntries, programEntries, taskInside, programInside, tasksAt, programsAt, nextTaskAt, nextProgramAt}
 use Rattle.task_table.specs.Laws.{Laws}
 use Rattle.task_table.proofs.Entries.{task-width, task-local, program-fixed, program-local}
 
@@ -144,9 +147,22 @@ module _ (s : List ℕ) (c : TaskCounts) (e : found c ≡ taskCountsInside s) wh
       program-found a t d =
           rw (counted .reads) (sym (at-picked program (holds-width program s (programEntries c) (counted .table .programs) (counted .programs) (fixed-width program-fixed) k l) a t d noEntry))
 
+-- in a file
+module _ (f : List ℕ) (p : Place) (t : TaskTable) (e : readAt f p taskTable ≡ found t) where
+  stand : Readable (cut f p) t
+  stand = let g = item-got (taskTable (cut f p)) t (opened f p taskTable t e .reads) in readable (cut f p) t (g .0) (g .1)
+
+  tasks-in : GivesFrom (tasksAt f p) (nextTaskAt f p) (t .tasks)
+  tasks-in = walk-gives-from f p taskTable t e task (stays-local (cut f p) task-local) (λ v. taskEntries (taskCounts v)) (t .tasks) _ (stand .tasks .reads)
+
+  programs-in : GivesFrom (programsAt f p) (nextProgramAt f p) (t .programs)
+  programs-in = walk-gives-from f p taskTable t e program (stays-local (cut f p) program-local) (λ v. programEntries (taskCounts v)) (t .programs) _ (stand .programs .reads)
+
 pub laws : Laws
 laws =
     record {
       tasks = λ s t rest e. walk-gives s task (stays-local s task-local) (taskEntries (taskCounts t)) (t .tasks) _ (readable s t rest e .tasks .reads);
       programs = λ s t rest e. walk-gives s program (stays-local s program-local) (programEntries (taskCounts t)) (t .programs) _ (readable s t rest e .programs .reads);
+      tasksIn = tasks-in;
+      programsIn = programs-in;
     }

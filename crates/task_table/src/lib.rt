@@ -4,7 +4,7 @@ ghost use Prim.Native.Nat.{_+_, _≤_};
 ghost use lib.ListN.{length, drop};
 ghost use Rattle.reading.specs.Numbers.{leAt};
 ghost use Rattle.reading.specs.Reader.{got, many};
-ghost use Rattle.reading.specs.Places.{Reads, Goes, stepOf};
+ghost use Rattle.reading.specs.Places.{stepAt, wayAt, stepOf};
 ghost use Rattle.format.specs.Tasks.{task, program};
 ghost use Rattle.base.specs.Small.{taskTypeNumber};
 ghost use Rattle.base.specs.Section.{placeIn, startFrom, wayFrom};
@@ -126,7 +126,7 @@ fn task_at(s: &[u8], at: usize, task_type: TaskType) -> TaskEntry
 // The task at the place `at`: its 32 bytes, then its type.
 fn read_task(s: &[u8], at: usize) -> TaskStep
     requires { ⌜ at ≤ length (now s) ⌝ }
-    ensures { λ r. ⌜ Reads task (now (s .entry)) at (taskStep r) ⌝ }
+    ensures { λ r. ⌜ taskStep r ≡ stepAt task (now (s .entry)) at ⌝ }
 {
     if s.len() - at < TASK_ENTRY_SIZE {
         return TaskStep::Refused(ContainerError::ShortInput);
@@ -143,7 +143,7 @@ fn read_task(s: &[u8], at: usize) -> TaskStep
 // A walk over the `n` tasks from `at` on.
 fn skip_tasks(s: &[u8], at: usize, n: usize) -> Walk
     requires { ⌜ at ≤ length (now s) ⌝ }
-    ensures { λ r. ⌜ Goes (many n task) (now (s .entry)) at (wayFrom r) ⌝ }
+    ensures { λ r. ⌜ wayFrom r ≡ wayAt (many n task) (now (s .entry)) at ⌝ }
 {
     let mut p = at;
     let mut i = 0;

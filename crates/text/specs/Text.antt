@@ -6,8 +6,10 @@ use mathlib.Core.List.{List, [], _∷_, _++_}
 use Prim.Native.Char.{code}
 use Prim.Native.String.{String}
 use Prim.Native.String as string
-use lib.Dec.{ltb}
+use lib.Dec.{leb, ltb}
 use lib.ListN.{length, take, drop}
+use Rattle.text.specs.declared.Put.{Put}
+use Rattle.text.specs.declared.Put.the-variants as put
 
 -- the bytes of a quoted text, all of whose characters are ASCII
 abbrev pub ascii : String → List ℕ
@@ -62,10 +64,33 @@ dashLine word ns = ended word ns (ascii " -\n")
 abbrev pub bytesLine : List ℕ → List ℕ → List ℕ → List ℕ
 bytesLine word ns bs = ended word ns (ascii " ") ++ hexOrDash bs ++ ascii "\n"
 
--- Putting: the buffer `before` became `after` when the text `t` was put at the place `at`, and r is the place behind it.
--- Up to r it holds what it held up to `at` and then the text; from r on it is as it was.
+-- Putting
+
+-- the buffer `before` with the text `t` at the place `at`: in front of it and behind it as it was
+abbrev pub putIn : List ℕ → ℕ → List ℕ → List ℕ
+putIn before at t = take at before ++ t ++ drop (at + length t) before
+
+-- what is answered where the text is put if it fits: the place behind it, or that there is no room
+unfoldable pub putAnswer : List ℕ → ℕ → List ℕ → Put
+putAnswer before at t = cond (leb (at + length t) (length before)) (put.At (at + length t)) put.NoRoom
+
+-- and what the buffer then is: if the text does not fit, what it was
+unfoldable pub putOr : List ℕ → ℕ → List ℕ → List ℕ
+putOr before at t = cond (leb (at + length t) (length before)) (putIn before at t) before
+
+-- the buffer `before` became `after` when the text `t`, which fits, was put at the place `at`, and r is the place behind it
 pub record Wrote (before : List ℕ) (at : ℕ) (t after : List ℕ) (r : ℕ) : Type 0 where
+  pub fits : at + length t ≤ length before
   pub next : r ≡ at + length t
-  pub within : r ≤ length after
-  pub text : take r after ≡ take at before ++ t
-  pub rest : drop r after ≡ drop r before
+  pub buffer : after ≡ putIn before at t
+
+-- r is answered for one line, and the buffer became `after`
+pub record PutsLine (before : List ℕ) (at : ℕ) (t after : List ℕ) (r : Put) : Type 0 where
+  pub answer : r ≡ putAnswer before at t
+  pub buffer : after ≡ putOr before at t
+
+-- the same for several lines: if they do not all fit, the buffer is as it was only in front of the place `at`
+pub record Puts (before : List ℕ) (at : ℕ) (t after : List ℕ) (r : Put) : Type 0 where
+  pub answer : r ≡ putAnswer before at t
+  pub front : take at after ≡ take at before
+  pub text : at + length t ≤ length before → after ≡ putIn before at t

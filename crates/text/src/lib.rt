@@ -1,16 +1,28 @@
-// Text in a buffer that the caller lends: numbers in decimal, bytes in hexadecimal, lines of them. Each function puts a text at
-// the place `at` and answers the place behind it.
+// Text in a buffer that the caller lends: numbers in decimal, bytes in hexadecimal, lines of them. A line that fits is put at the place `at`, and
+// the answer is the place behind it; one that does not fit leaves the buffer as it was.
 ghost use Prim.Native.Nat.{_+_, _*_, _/_, _%_, _<_, _≤_};
 ghost use mathlib.Core.Path.{_≡_};
 ghost use mathlib.Core.List.{[], _∷_, _++_};
+ghost use lib.Dec.{leb};
 ghost use lib.ListN.{length};
-ghost use Rattle.text.specs.Text.{ascii, digits, decimal, numbers, hexDigit, hexes, hexOrDash, ended, line, dashLine, bytesLine, Wrote};
+ghost use Rattle.text.specs.Text.{ascii, digits, decimal, numbers, hexDigit, hexes, hexOrDash, ended, line, dashLine, bytesLine, Wrote, PutsLine};
 ghost use Rattle.text.specs.Laws.{Laws};
+
+// The place behind a text that was put; or it does not fit.
+pub enum Put {
+    NoRoom,
+    At(usize),
+}
 
 // The digits of the largest u64.
 const MOST_DIGITS: usize = 20;
 
-pub fn put_byte(out: &mut [u8], at: usize, byte: u8) -> usize
+// A space and as many digits.
+const MOST_OF_NUMBER: usize = 21;
+
+// Putting a text that fits.
+
+fn put_byte(out: &mut [u8], at: usize, byte: u8) -> usize
     requires { ⌜ at < length (now out) ⌝ }
     ensures { λ r. ⌜ Wrote (now (out .entry)) at (byte ∷ []) (now (out .exit)) r ⌝ }
 {
@@ -33,7 +45,7 @@ pub fn put_bytes(out: &mut [u8], at: usize, bytes: &[u8]) -> usize
 
 // The decimal digits of n; of more than `most` the last `most`.
 fn put_digits(out: &mut [u8], at: usize, n: u64, most: usize) -> usize
-    requires { ⌜ at + most ≤ length (now out) ⌝ }
+    requires { ⌜ at + length (digits most n) ≤ length (now out) ⌝ }
     ensures { λ r. ⌜ Wrote (now (out .entry)) at (digits most n) (now (out .exit)) r ⌝ }
 {
     if most == 0 {
@@ -46,8 +58,8 @@ fn put_digits(out: &mut [u8], at: usize, n: u64, most: usize) -> usize
     put_byte(out, next, b'0' + (n % 10) as u8)
 }
 
-pub fn put_decimal(out: &mut [u8], at: usize, n: u64) -> usize
-    requires { ⌜ at + 20 ≤ length (now out) ⌝ }
+fn put_decimal(out: &mut [u8], at: usize, n: u64) -> usize
+    requires { ⌜ at + length (decimal n) ≤ length (now out) ⌝ }
     ensures { λ r. ⌜ Wrote (now (out .entry)) at (decimal n) (now (out .exit)) r ⌝ }
 {
     put_digits(out, at, n, MOST_DIGITS)
@@ -55,7 +67,7 @@ pub fn put_decimal(out: &mut [u8], at: usize, n: u64) -> usize
 
 // A space and n.
 fn put_number(out: &mut [u8], at: usize, n: u64) -> usize
-    requires { ⌜ at + 21 ≤ length (now out) ⌝ }
+    requires { ⌜ at + length (ascii " " ++ decimal n) ≤ length (now out) ⌝ }
     ensures { λ r. ⌜ Wrote (now (out .entry)) at (ascii " " ++ decimal n) (now (out .exit)) r ⌝ }
 {
     let next = put_byte(out, at, b' ');
@@ -63,8 +75,8 @@ fn put_number(out: &mut [u8], at: usize, n: u64) -> usize
 }
 
 // A space and a number, for each.
-pub fn put_numbers(out: &mut [u8], at: usize, ns: &[u64]) -> usize
-    requires { ⌜ at + 21 * length (now ns) ≤ length (now out) ⌝ }
+fn put_numbers(out: &mut [u8], at: usize, ns: &[u64]) -> usize
+    requires { ⌜ at + length (numbers (now ns)) ≤ length (now out) ⌝ }
     ensures { λ r. ⌜ Wrote (now (out .entry)) at (numbers (now (ns .entry))) (now (out .exit)) r ⌝ }
 {
     let mut i = 0;
@@ -95,8 +107,8 @@ fn put_hex_byte(out: &mut [u8], at: usize, byte: u8) -> usize
 }
 
 // Bytes in hexadecimal, two digits for each.
-pub fn put_hex(out: &mut [u8], at: usize, bytes: &[u8]) -> usize
-    requires { ⌜ at + 2 * length (now bytes) ≤ length (now out) ⌝ }
+fn put_hex(out: &mut [u8], at: usize, bytes: &[u8]) -> usize
+    requires { ⌜ at + length (hexes (now bytes)) ≤ length (now out) ⌝ }
     ensures { λ r. ⌜ Wrote (now (out .entry)) at (hexes (now (bytes .entry))) (now (out .exit)) r ⌝ }
 {
     let mut i = 0;
@@ -110,7 +122,7 @@ pub fn put_hex(out: &mut [u8], at: usize, bytes: &[u8]) -> usize
 
 // Bytes in hexadecimal, or a dash if there are none.
 fn put_hex_or_dash(out: &mut [u8], at: usize, bytes: &[u8]) -> usize
-    requires { ⌜ at + 2 * length (now bytes) < length (now out) ⌝ }
+    requires { ⌜ at + length (hexOrDash (now bytes)) ≤ length (now out) ⌝ }
     ensures { λ r. ⌜ Wrote (now (out .entry)) at (hexOrDash (now (bytes .entry))) (now (out .exit)) r ⌝ }
 {
     if bytes.len() == 0 {
@@ -121,7 +133,7 @@ fn put_hex_or_dash(out: &mut [u8], at: usize, bytes: &[u8]) -> usize
 
 // A word, numbers, and an end.
 fn put_ended(out: &mut [u8], at: usize, word: &[u8], ns: &[u64], end: &[u8]) -> usize
-    requires { ⌜ at + length (now word) + 21 * length (now ns) + length (now end) ≤ length (now out) ⌝ }
+    requires { ⌜ at + length (ended (now word) (now ns) (now end)) ≤ length (now out) ⌝ }
     ensures { λ r. ⌜ Wrote (now (out .entry)) at (ended (now (word .entry)) (now (ns .entry)) (now (end .entry))) (now (out .exit)) r ⌝ }
 {
     let next = put_bytes(out, at, word);
@@ -129,30 +141,138 @@ fn put_ended(out: &mut [u8], at: usize, word: &[u8], ns: &[u64], end: &[u8]) -> 
     put_bytes(out, next, end)
 }
 
-// A line of a word and numbers.
-pub fn put_line(out: &mut [u8], at: usize, word: &[u8], ns: &[u64]) -> usize
-    requires { ⌜ at + length (now word) + 21 * length (now ns) < length (now out) ⌝ }
-    ensures { λ r. ⌜ Wrote (now (out .entry)) at (line (now (word .entry)) (now (ns .entry))) (now (out .exit)) r ⌝ }
+// Whether a text fits. No sum wraps: what is left is counted down step by step.
+
+// How many decimal digits n has.
+fn decimal_length(n: u64) -> usize
+    ensures { λ r. ⌜ r ≡ length (decimal n) ⌝ }
 {
-    put_ended(out, at, word, ns, b"\n")
+    let mut rest = n;
+    let mut count: usize = 0;
+    while count < MOST_DIGITS {
+        count += 1;
+        if rest < 10 {
+            return count;
+        }
+        rest = rest / 10;
+    }
+    count
+}
+
+// Whether a space and a number, for each, fit into `left` bytes.
+fn numbers_fit(left: usize, ns: &[u64]) -> bool
+    ensures { λ r. ⌜ r ≡ leb (length (numbers (now (ns .entry)))) left ⌝ }
+{
+    let mut rest = left;
+    let mut i = 0;
+    while i < ns.len() {
+        let size = 1 + decimal_length(ns[i]);
+        if rest < size {
+            return false;
+        }
+        rest -= size;
+        i += 1;
+    }
+    true
+}
+
+// Whether a word, numbers and an end fit behind the place `at` of `len` bytes, the numbers measured.
+fn measured(len: usize, at: usize, word: usize, ns: &[u64], end: usize) -> bool
+    ensures { λ r. ⌜ r ≡ leb (at + (word + length (numbers (now (ns .entry))) + end)) len ⌝ }
+{
+    if len < at {
+        return false;
+    }
+    let left = len - at;
+    if left < word {
+        return false;
+    }
+    let left = left - word;
+    if left < end {
+        return false;
+    }
+    numbers_fit(left - end, ns)
+}
+
+// The same, quick where numbers of any length fit.
+fn fits(len: usize, at: usize, word: usize, ns: &[u64], end: usize) -> bool
+    ensures { λ r. ⌜ r ≡ leb (at + (word + length (numbers (now (ns .entry))) + end)) len ⌝ }
+{
+    if at <= len {
+        let left = len - at;
+        if word <= left {
+            let left = left - word;
+            if end <= left {
+                if ns.len() <= (left - end) / MOST_OF_NUMBER {
+                    return true;
+                }
+            }
+        }
+    }
+    measured(len, at, word, ns, end)
+}
+
+// The length of bytes in hexadecimal, or of the dash if there are none.
+fn hex_length(bytes: &[u8]) -> usize
+    requires { ⌜ 2 * length (now bytes) < 18446744073709551616 ⌝ }
+    ensures { λ r. ⌜ r ≡ length (hexOrDash (now (bytes .entry))) ⌝ }
+{
+    if bytes.len() == 0 {
+        return 1;
+    }
+    2 * bytes.len()
+}
+
+// Putting a text, if it fits.
+
+// A text.
+pub fn put_text(out: &mut [u8], at: usize, text: &[u8]) -> Put
+    ensures { λ r. ⌜ PutsLine (now (out .entry)) at (now (text .entry)) (now (out .exit)) r ⌝ }
+{
+    if out.len() < at {
+        return Put::NoRoom;
+    }
+    if out.len() - at < text.len() {
+        return Put::NoRoom;
+    }
+    Put::At(put_bytes(out, at, text))
+}
+
+// A line of a word and numbers.
+pub fn put_line(out: &mut [u8], at: usize, word: &[u8], ns: &[u64]) -> Put
+    ensures { λ r. ⌜ PutsLine (now (out .entry)) at (line (now (word .entry)) (now (ns .entry))) (now (out .exit)) r ⌝ }
+{
+    if fits(out.len(), at, word.len(), ns, 1) {
+        return Put::At(put_ended(out, at, word, ns, b"\n"));
+    }
+    Put::NoRoom
 }
 
 // A line that ends in a dash, for what is not there.
-pub fn put_dash_line(out: &mut [u8], at: usize, word: &[u8], ns: &[u64]) -> usize
-    requires { ⌜ at + length (now word) + 21 * length (now ns) + 3 ≤ length (now out) ⌝ }
-    ensures { λ r. ⌜ Wrote (now (out .entry)) at (dashLine (now (word .entry)) (now (ns .entry))) (now (out .exit)) r ⌝ }
+pub fn put_dash_line(out: &mut [u8], at: usize, word: &[u8], ns: &[u64]) -> Put
+    ensures { λ r. ⌜ PutsLine (now (out .entry)) at (dashLine (now (word .entry)) (now (ns .entry))) (now (out .exit)) r ⌝ }
 {
-    put_ended(out, at, word, ns, b" -\n")
+    if fits(out.len(), at, word.len(), ns, 3) {
+        return Put::At(put_ended(out, at, word, ns, b" -\n"));
+    }
+    Put::NoRoom
 }
 
-// A line that ends in bytes, or in a dash if there are none.
-pub fn put_bytes_line(out: &mut [u8], at: usize, word: &[u8], ns: &[u64], bytes: &[u8]) -> usize
-    requires { ⌜ at + length (now word) + 21 * length (now ns) + 2 * length (now bytes) + 3 ≤ length (now out) ⌝ }
-    ensures { λ r. ⌜ Wrote (now (out .entry)) at (bytesLine (now (word .entry)) (now (ns .entry)) (now (bytes .entry))) (now (out .exit)) r ⌝ }
+// A line that ends in bytes, or in a dash if there are none. What the first test turns away is too long even for an empty word: a
+// space, the digits and the line's end.
+pub fn put_bytes_line(out: &mut [u8], at: usize, word: &[u8], ns: &[u64], bytes: &[u8]) -> Put
+    ensures { λ r. ⌜ PutsLine (now (out .entry)) at (bytesLine (now (word .entry)) (now (ns .entry)) (now (bytes .entry))) (now (out .exit)) r ⌝ }
 {
-    let next = put_ended(out, at, word, ns, b" ");
-    let next = put_hex_or_dash(out, next, bytes);
-    put_byte(out, next, b'\n')
+    if out.len() / 2 <= bytes.len() {
+        return Put::NoRoom;
+    }
+    let end = hex_length(bytes) + 2;
+    if fits(out.len(), at, word.len(), ns, end) {
+        let next = put_ended(out, at, word, ns, b" ");
+        let next = put_hex_or_dash(out, next, bytes);
+        return Put::At(put_byte(out, next, b'\n'));
+    }
+    Put::NoRoom
 }
 
 // The claims of `specs/Laws.antt` hold. There is no code: the contract makes the check prove them.

@@ -17,6 +17,8 @@ use Rattle.reading.specs.Answer.{refused, found, need}
 use Rattle.reading.specs.Places.{Step, stops, item, Reads, Way, stopsBy, onTo, Goes}
 use Rattle.reading.proofs.Reading.{then-then, number-at}
 use Rattle.reading.proofs.Width.{Width, Needs, Fixed, needs-none, needs-bind, width-check, width-bind, width-number, fixed-give, fixed-bind, fixed-number, fixed-many, fixed-at, needs-at}
+use Rattle.reading.proofs.Local.{Local, local-give, local-check, local-bind, local-number, local-many}
+use Rattle.reading.proofs.Left.{Stays, stays-local, stays-bind, stays-counted, stays-counted-or-none}
 use Rattle.reading.proofs.Passing.{goes-told, counted-short, counted-as}
 use Rattle.reading.proofs.Tables.{many-length}
 use Rattle.format.specs.Faults.{invalidFieldType, invalidArrayStride}
@@ -73,6 +75,60 @@ user-fb-fixed =
     fixed-bind (fixed-number 2) λ o.
     fixed-bind (fixed-number 1) λ n.
     fixed-bind (fixed-number 1) λ r. fixed-give _
+
+-- What each reads depends on the bytes that it takes
+
+pub local-field : Local field
+unfolding field
+local-field =
+    local-bind (local-number 1) λ k.
+    local-bind (local-number 1) λ r.
+    local-bind (local-number 2) λ e.
+    local-bind (local-check (leb k 10) (invalidFieldType k)) λ u. local-give (record { kind = k; extra = e })
+
+pub local-fb-type : Local fbType
+unfolding fbType
+local-fb-type =
+    local-bind (local-number 2) λ i.
+    local-bind (local-number 1) λ n.
+    local-bind (local-number 1) λ r.
+    local-bind (local-many n local-field) λ fs. local-give _
+
+pub local-array : Local array
+unfolding array
+local-array =
+    local-bind (local-number 1) λ k.
+    local-bind (local-number 1) λ r.
+    local-bind (local-number 4) λ n.
+    local-bind (local-number 2) λ e.
+    local-bind (local-number 4) λ t.
+    local-bind (local-check (strideFits k e t) (invalidArrayStride k t)) λ u. local-give (record { kind = k; elements = n; extra = e; stride = t })
+
+pub local-user-fb : Local userFb
+unfolding userFb
+local-user-fb =
+    local-bind (local-number 2) λ i.
+    local-bind (local-number 2) λ f.
+    local-bind (local-number 2) λ o.
+    local-bind (local-number 1) λ n.
+    local-bind (local-number 1) λ r. local-give _
+
+pub local-head : Local fbTypeHead
+local-head = local-bind local-fb-type λ b. local-give (fbTypeHeadOf b)
+
+-- the tables, by what they leave
+module _ (s : List ℕ) (at : ℕ) where
+  stays-table : {A : Type 0} {r : Reader (List A)} → Stays s r → Stays s (tableAt at r)
+  stays-table h = stays-bind s h λ xs. stays-local s (local-give (record { at = at + 2; count = length xs }))
+
+  pub stays-fb-types : Stays s (tableAt at (counted fbType))
+  stays-fb-types = stays-table (stays-counted s (stays-local s local-fb-type))
+
+  pub stays-arrays : Stays s (tableAt at (counted array))
+  stays-arrays = stays-table (stays-counted s (stays-local s local-array))
+
+  pub stays-user-fbs : Stays s (tableAt at (countedOrNone userFb))
+  stays-user-fbs = stays-table (stays-counted-or-none s (stays-local s local-user-fb))
 
 -- A check behind what was read, by what the same test answers
 

@@ -3,7 +3,7 @@ ghost use mathlib.Core.Path.{_≡_};
 ghost use Prim.Native.Nat.{_≤_};
 ghost use lib.ListN.{length};
 ghost use Rattle.reading.specs.Reader.{many, counted, countedOrNone};
-ghost use Rattle.reading.specs.Places.{Reads, Goes};
+ghost use Rattle.reading.specs.Places.{stepAt, wayAt};
 ghost use Rattle.format.specs.Types.{field, fbType, isString, naturalStride, strideFits, elementCharWidth, array, userFb};
 ghost use Rattle.format.specs.Lookups.{byteSize};
 ghost use Rattle.base.specs.Small.{byteWidth};
@@ -148,6 +148,13 @@ impl ArrayDescriptor {
         SLOT_BYTES
     }
 
+    // The bytes between the starts of two elements that follow each other.
+    pub fn element_stride(self) -> u32
+        ensures { λ r. ⌜ r ≡ arrayIn self .stride ⌝ }
+    {
+        self.element_stride
+    }
+
     // Bytes to a character of an element that is a string.
     pub fn element_char_width(self) -> CharWidth
         ensures { λ r. ⌜ byteWidth r ≡ elementCharWidth (arrayIn self) ⌝ }
@@ -189,7 +196,7 @@ impl ArrayDescriptor {
 
 // The field at the place `at`.
 pub fn read_field(s: &[u8], at: usize) -> FieldStep
-    ensures { λ r. ⌜ Reads field (now (s .entry)) at (fieldStep r) ⌝ }
+    ensures { λ r. ⌜ fieldStep r ≡ stepAt field (now (s .entry)) at ⌝ }
 {
     if s.len() < at {
         return FieldStep::Refused(ContainerError::ShortInput);
@@ -214,7 +221,7 @@ pub fn read_field(s: &[u8], at: usize) -> FieldStep
 // A walk over the `n` fields from `at` on.
 fn skip_fields(s: &[u8], at: usize, n: usize) -> Walk
     requires { ⌜ at ≤ length (now s) ⌝ }
-    ensures { λ r. ⌜ Goes (many n field) (now (s .entry)) at (wayFrom r) ⌝ }
+    ensures { λ r. ⌜ wayFrom r ≡ wayAt (many n field) (now (s .entry)) at ⌝ }
 {
     let mut p = at;
     let mut i = 0;
@@ -234,7 +241,7 @@ fn skip_fields(s: &[u8], at: usize, n: usize) -> Walk
 
 // The FB type at the place `at`; its fields stand 4 bytes behind that.
 pub fn read_fb_type(s: &[u8], at: usize) -> FbTypeStep
-    ensures { λ r. ⌜ Reads fbTypeHead (now (s .entry)) at (fbTypeStep r) ⌝ }
+    ensures { λ r. ⌜ fbTypeStep r ≡ stepAt fbTypeHead (now (s .entry)) at ⌝ }
 {
     if s.len() < at {
         return FbTypeStep::Refused(ContainerError::ShortInput);
@@ -259,7 +266,7 @@ pub fn read_fb_type(s: &[u8], at: usize) -> FbTypeStep
 // A walk over the `n` FB types from `at` on.
 pub fn skip_fb_types(s: &[u8], at: usize, n: usize) -> Walk
     requires { ⌜ at ≤ length (now s) ⌝ }
-    ensures { λ r. ⌜ Goes (many n fbType) (now (s .entry)) at (wayFrom r) ⌝ }
+    ensures { λ r. ⌜ wayFrom r ≡ wayAt (many n fbType) (now (s .entry)) at ⌝ }
 {
     let mut p = at;
     let mut i = 0;
@@ -279,7 +286,7 @@ pub fn skip_fb_types(s: &[u8], at: usize, n: usize) -> Walk
 
 // The array at the place `at`.
 pub fn read_array(s: &[u8], at: usize) -> ArrayStep
-    ensures { λ r. ⌜ Reads array (now (s .entry)) at (arrayStep r) ⌝ }
+    ensures { λ r. ⌜ arrayStep r ≡ stepAt array (now (s .entry)) at ⌝ }
 {
     if s.len() < at {
         return ArrayStep::Refused(ContainerError::ShortInput);
@@ -302,7 +309,7 @@ pub fn read_array(s: &[u8], at: usize) -> ArrayStep
 // A walk over the `n` arrays from `at` on.
 fn skip_arrays(s: &[u8], at: usize, n: usize) -> Walk
     requires { ⌜ at ≤ length (now s) ⌝ }
-    ensures { λ r. ⌜ Goes (many n array) (now (s .entry)) at (wayFrom r) ⌝ }
+    ensures { λ r. ⌜ wayFrom r ≡ wayAt (many n array) (now (s .entry)) at ⌝ }
 {
     let mut p = at;
     let mut i = 0;
@@ -322,7 +329,7 @@ fn skip_arrays(s: &[u8], at: usize, n: usize) -> Walk
 
 // The user FB at the place `at`.
 pub fn read_user_fb(s: &[u8], at: usize) -> UserFbStep
-    ensures { λ r. ⌜ Reads userFb (now (s .entry)) at (userFbStep r) ⌝ }
+    ensures { λ r. ⌜ userFbStep r ≡ stepAt userFb (now (s .entry)) at ⌝ }
 {
     if s.len() < at {
         return UserFbStep::Refused(ContainerError::ShortInput);
@@ -348,7 +355,7 @@ pub fn read_user_fb(s: &[u8], at: usize) -> UserFbStep
 // The tables, each with its count at `at`.
 fn fb_type_table(s: &[u8], at: usize) -> TableStep
     requires { ⌜ at ≤ length (now s) ⌝ }
-    ensures { λ r. ⌜ Reads (tableAt at (counted fbType)) (now (s .entry)) at (tableStep r) ⌝ }
+    ensures { λ r. ⌜ tableStep r ≡ stepAt (tableAt at (counted fbType)) (now (s .entry)) at ⌝ }
 {
     if s.len() - at < 2 {
         return TableStep::Refused(ContainerError::ShortInput);
@@ -363,7 +370,7 @@ fn fb_type_table(s: &[u8], at: usize) -> TableStep
 
 fn array_table(s: &[u8], at: usize) -> TableStep
     requires { ⌜ at ≤ length (now s) ⌝ }
-    ensures { λ r. ⌜ Reads (tableAt at (counted array)) (now (s .entry)) at (tableStep r) ⌝ }
+    ensures { λ r. ⌜ tableStep r ≡ stepAt (tableAt at (counted array)) (now (s .entry)) at ⌝ }
 {
     if s.len() - at < 2 {
         return TableStep::Refused(ContainerError::ShortInput);
@@ -379,7 +386,7 @@ fn array_table(s: &[u8], at: usize) -> TableStep
 // No user FB is refused, so that they need no walk. Fewer than two bytes mean that there are none.
 fn user_fb_table(s: &[u8], at: usize) -> TableStep
     requires { ⌜ at ≤ length (now s) ⌝ }
-    ensures { λ r. ⌜ Reads (tableAt at (countedOrNone userFb)) (now (s .entry)) at (tableStep r) ⌝ }
+    ensures { λ r. ⌜ tableStep r ≡ stepAt (tableAt at (countedOrNone userFb)) (now (s .entry)) at ⌝ }
 {
     let first = at + 2;
     if s.len() < first {

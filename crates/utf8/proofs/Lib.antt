@@ -1,4 +1,3 @@
 pub mod Table
 pub mod Longest
 pub mod Ascii
-pub mod Alike

@@ -114,12 +114,20 @@ fn past_two(s: &[u8], at: usize) -> usize
     ensures { λ r. ⌜ Reached (now (s .entry)) at r ⌝ }
 {
     let mut i = at;
-    while has(s, i, 0xC2, 0xDF) {
-        let n = two(s, i);
-        if n == 0 {
-            return i;
+    while i < s.len() {
+        let lead = s[i];
+        match lead {
+            0xC2..=0xDF => {
+                let n = two(s, i);
+                if n == 0 {
+                    return i;
+                }
+                i += n;
+            }
+            _ => {
+                return i;
+            }
         }
-        i += n;
     }
     i
 }
@@ -130,12 +138,20 @@ fn past_three(s: &[u8], at: usize) -> usize
     ensures { λ r. ⌜ Reached (now (s .entry)) at r ⌝ }
 {
     let mut i = at;
-    while has(s, i, 0xE1, 0xEC) {
-        let n = three(s, i, 0x80, 0xBF);
-        if n == 0 {
-            return i;
+    while i < s.len() {
+        let lead = s[i];
+        match lead {
+            0xE1..=0xEC => {
+                let n = three(s, i, 0x80, 0xBF);
+                if n == 0 {
+                    return i;
+                }
+                i += n;
+            }
+            _ => {
+                return i;
+            }
         }
-        i += n;
     }
     i
 }

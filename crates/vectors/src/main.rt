@@ -1,6 +1,7 @@
 // Runs BLAKE3's published vectors, the lines of data/blake3-vectors.txt: an input's length, and its digest in hexadecimal;
 // byte i of an input is i mod 251. Each input is hashed whole, in parts of uneven lengths, and in two parts through a lent
-// state. Behind them come an input of the most bytes that the hash is asked for, and one of a byte more.
+// state. Behind them come an input of the most bytes that the hash is asked for, one of a byte more, one of a byte more than 511 chunks, and
+// one of twice as many as a state takes in.
 use base::digest::Digest;
 use base::error::ContainerError;
 use blake3::HASH_LIMIT;
@@ -30,9 +31,9 @@ fn wide(b: u8) -> usize
     b as usize
 }
 
-// A byte more than the hash is asked for.
-fn room() -> [u8; 261377] {
-    [0; 261377]
+// Twice as many bytes as a state takes in.
+fn room() -> [u8; 524288] {
+    [0; 524288]
 }
 
 fn fill(input: &mut [u8]) {
@@ -88,7 +89,7 @@ fn part_end(turn: usize, at: usize, end: usize) -> usize
 }
 
 // The digest of an input that is fed in parts, by value.
-fn in_parts(s: &[u8]) -> Digest {
+fn in_parts(s: &[u8]) -> HashAnswer {
     let mut h = Hasher::new();
     let mut at = 0;
     let mut turn = 0;
@@ -103,9 +104,10 @@ fn in_parts(s: &[u8]) -> Digest {
 }
 
 // The digest of an input that is fed in two parts, through a lent state.
-fn in_two(s: &[u8]) -> Digest {
+fn in_two(s: &[u8]) -> HashAnswer {
     let cut = s.len() / 3;
-    blake3::finish(blake3::fed_with(Hasher::new(), &s[..cut], &s[cut..]))
+    let first = blake3::fed_with(Hasher::new(), &s[..cut]);
+    blake3::finish(blake3::fed_with(first, &s[cut..]))
 }
 
 fn refused(error: ContainerError) {
@@ -113,38 +115,8 @@ fn refused(error: ContainerError) {
     count(wide(error.number()));
 }
 
-// Whether a digest has the expected digits. If not, its own are written.
-fn is_right(way: &[u8], digest: Digest, expected: &[u8]) -> bool {
-    let text = text_of(digest);
-    if check::same(&text, expected) {
-        return true;
-    }
-    word(way);
-    word(&text);
-    false
-}
-
-// A vector: an input, and the digits of its digest.
-fn run(s: &[u8], expected: &[u8]) {
-    count(s.len());
-    match blake3::hash(s) {
-        HashAnswer::Refused(error) => refused(error),
-        HashAnswer::Digest(whole) => {
-            if is_right(b" wrong, whole: ", whole, expected)
-                && is_right(b" wrong, in parts: ", in_parts(s), expected)
-                && is_right(b" wrong, in two: ", in_two(s), expected)
-            {
-                word(b" ok");
-            }
-        }
-    }
-    word(b"\n");
-}
-
-// An input with no digest given.
-fn show(s: &[u8]) {
-    count(s.len());
-    match blake3::hash(s) {
+fn answered(answer: HashAnswer) {
+    match answer {
         HashAnswer::Refused(error) => refused(error),
         HashAnswer::Digest(digest) => {
             word(b" ");
@@ -152,6 +124,48 @@ fn show(s: &[u8]) {
             word(&text);
         }
     }
+}
+
+fn has_digits(answer: HashAnswer, expected: &[u8]) -> bool {
+    match answer {
+        HashAnswer::Refused(_) => false,
+        HashAnswer::Digest(digest) => {
+            let text = text_of(digest);
+            check::same(&text, expected)
+        }
+    }
+}
+
+// Whether an answer is a digest with the expected digits. If not, it is written.
+fn is_right(way: &[u8], answer: HashAnswer, expected: &[u8]) -> bool {
+    if has_digits(answer, expected) {
+        return true;
+    }
+    word(way);
+    answered(answer);
+    false
+}
+
+// A vector: an input, and the digits of its digest.
+fn run(s: &[u8], expected: &[u8]) {
+    count(s.len());
+    if is_right(b" wrong, whole:", blake3::hash(s), expected)
+        && is_right(b" wrong, in parts:", in_parts(s), expected)
+        && is_right(b" wrong, in two:", in_two(s), expected)
+    {
+        word(b" ok");
+    }
+    word(b"\n");
+}
+
+// An input with no digest given.
+fn show(s: &[u8]) {
+    count(s.len());
+    answered(blake3::hash(s));
+    word(b", in parts");
+    answered(in_parts(s));
+    word(b", in two");
+    answered(in_two(s));
     word(b"\n");
 }
 
@@ -234,11 +248,13 @@ fn lines(file: &[u8], input: &[u8]) {
     }
 }
 
-// The most bytes that the hash is asked for, and a byte more.
+// The most bytes that the hash is asked for, a byte more, a byte more than 511 chunks, and all.
 fn edges(input: &[u8])
-    requires { ⌜ 261376 ≤ length (now input) ⌝ }
+    requires { ⌜ 523265 ≤ length (now input) ⌝ }
 {
     show(&input[..HASH_LIMIT]);
+    show(&input[..HASH_LIMIT + 1]);
+    show(&input[..523265]);
     show(input);
 }
 

@@ -24,8 +24,22 @@ unsafe extern "C" {
         out: *mut u64,
         room: usize,
     ) -> usize;
-    fn container_content_hash(file: *const u8, length: usize, out: *mut u8, room: usize) -> usize;
-    fn container_hash(bytes: *const u8, length: usize, out: *mut u8, room: usize) -> usize;
+    fn container_content_hash(
+        file: *const u8,
+        length: usize,
+        digest: *mut u8,
+        digest_length: usize,
+        out: *mut u64,
+        room: usize,
+    ) -> usize;
+    fn container_hash(
+        bytes: *const u8,
+        length: usize,
+        digest: *mut u8,
+        digest_length: usize,
+        out: *mut u64,
+        room: usize,
+    ) -> usize;
     fn container_list(file: *const u8, length: usize, out: *mut u8, room: usize) -> usize;
 }
 
@@ -190,6 +204,7 @@ pub fn loaded_text(file: &[u8], lookup: &str, said: &[u64], content_hash: &str) 
 #[cfg(feature = "library")]
 mod linked {
     use super::*;
+    use std::cell::Cell;
 
     /// Numbers that the library wrote, and the rest of the buffer as it was.
     fn numbers(put: impl Fn(*mut u64, usize) -> usize) -> Vec<u64> {
@@ -214,22 +229,30 @@ mod linked {
         numbers(|out, room| unsafe { container_line(file.as_ptr(), file.len(), function, offset, out, room) })
     }
 
-    /// A digest's text, or that of a refusal's number.
-    fn digest(put: impl Fn(*mut u8, usize) -> usize) -> String {
-        let mut out = [0xa5; 33];
-        let number = put(out.as_mut_ptr(), out.len());
-        match number {
-            0 if out[32] == 0xa5 => hex(&out[..32]),
-            _ => refusal(&[number as u64]),
+    /// A digest's text, or that of a refusal; a refusal leaves the digest's buffer as it was.
+    fn digest(put: impl Fn(*mut u8, usize, *mut u64, usize) -> usize) -> String {
+        const UNTOUCHED: [u8; 33] = [0xa5; 33];
+        let bytes = Cell::new(UNTOUCHED);
+        let said = numbers(|out, room| put(bytes.as_ptr().cast(), UNTOUCHED.len(), out, room));
+        let bytes = bytes.get();
+        match said[..] {
+            [0] if bytes[32] == UNTOUCHED[32] => hex(&bytes[..32]),
+            [0] => "a byte behind the digest".to_string(),
+            _ if bytes != UNTOUCHED => format!("{}, and a digest", refusal(&said)),
+            _ => refusal(&said),
         }
     }
 
     fn hash(bytes: &[u8]) -> String {
-        digest(|out, room| unsafe { container_hash(bytes.as_ptr(), bytes.len(), out, room) })
+        digest(|digest, length, out, room| unsafe {
+            container_hash(bytes.as_ptr(), bytes.len(), digest, length, out, room)
+        })
     }
 
     fn content_hash(file: &[u8]) -> String {
-        digest(|out, room| unsafe { container_content_hash(file.as_ptr(), file.len(), out, room) })
+        digest(|digest, length, out, room| unsafe {
+            container_content_hash(file.as_ptr(), file.len(), digest, length, out, room)
+        })
     }
 
     fn answer(file: &[u8], loaded: &[u64], q: &Question) -> String {
@@ -254,8 +277,8 @@ mod linked {
         if loaded.first() == Some(&0) {
             return listing;
         }
-        let number = refusal(&loaded[..1]);
-        if listing != refusal(loaded) + "\n" || asked(file, 0, 0, 0) != loaded || content_hash(file) != number {
+        let refused = refusal(loaded);
+        if listing != refused.clone() + "\n" || asked(file, 0, 0, 0) != loaded || content_hash(file) != refused {
             return format!("{listing}the others: {loaded:?}, {:?}, {}\n", asked(file, 0, 0, 0), content_hash(file));
         }
         listing

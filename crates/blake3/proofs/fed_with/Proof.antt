@@ -1,4 +1,4 @@
--- `blake3::fed_with` meets its contract: a walk of its MIR, by hand. The local state is lent to `update` for a lifetime that is made for the call, and taken back at the value that `update` left, twice.
+-- `blake3::fed_with` meets its contract: a walk of its MIR, by hand. The local state is lent to `update` for a lifetime that is made for the call, and taken back at the value that `update` left.
 -- All that the proof knows of `update` is that it meets its contract.
 use mathlib.Core.Path.{_≡_, refl, sym, subst, ap, _∙_}
 use Prim.Native.Nat.{ℕ}
@@ -60,7 +60,7 @@ abbrev R : RattleType
 R = T.the-row
 
 abbrev stayed : Stays (f.ended .signature .params) (f.ended .kept)
-stayed = (stay-none (λ _. R) yes, (stay-none-slice (0 ∷ []) tt (plain (λ _. u8)) yes, (stay-none-slice (1 ∷ []) tt (plain (λ _. u8)) yes, tt)))
+stayed = (stay-none (λ _. R) yes, (stay-none-slice (0 ∷ []) tt (plain (λ _. u8)) yes, tt))
 
 -- the contract that the proof cites
 abbrev Upd : {M : Type 1} (𝓤 : URA M) (H : Heap 𝓤) (A : Atoms 𝓤) (mem : Memory → SProp 𝓤) (run : Routine → Fun 𝓤) → Contract 𝓤
@@ -109,86 +109,71 @@ module _ {M : Type 1} (𝓤 : URA M) (H : Heap 𝓤) (A : Atoms 𝓤) (W : Given
         qed W (‵ (fsep Ref Own) ∷ (‵ (flft (ν ∷ []) fullShare) ⊛ ‵ (flft κ q)) ∷ []) ∵ fsplit ! $ nothing ! $ move ! (2 ∷ 0 ∷ []) $ fjoin ! $ move ! (1 ∷ 0 ∷ []) $ fjoin ! $
         move ! (1 ∷ []) $ split ! $ nothing ! $ move ! (2 ∷ 0 ∷ []) $ join ! $ move ! (1 ∷ 0 ∷ []) $ join ! $ join ! $ frame ! $ done !
 
-  module _ (κ₁ κ₂ : Lft) (bounds : AllOutlive 2 (f.signature .outlives) (κ₁, (κ₂, tt))) (q₁ q₂ : Share) (h : Hasher) (s₁ s₂ : RefT (List ℕ)) where
-    abbrev a : Hasher × (RefT (List ℕ) × (RefT (List ℕ) × Unit {0}))
-    a = (h, (s₁, (s₂, tt)))
+  module _ (κ : Lft) (bounds : AllOutlive 1 (f.signature .outlives) (κ, tt)) (q : Share) (h : Hasher) (s : RefT (List ℕ)) where
+    abbrev a : Hasher × (RefT (List ℕ) × Unit {0})
+    a = (h, (s, tt))
 
-    abbrev vals : List Val × (List Val × (List Val × Unit {0}))
-    vals = (mach h ∷ [], (view s₁ ∷ [], (view s₂ ∷ [], tt)))
+    abbrev vals : List Val × (List Val × Unit {0})
+    vals = (mach h ∷ [], (view s ∷ [], tt))
 
-    abbrev O₁ : Fml
-    O₁ = ShrSlice (named 0) κ₁ u8 .own s₁ (view s₁ ∷ [])
-
-    abbrev O₂ : Fml
-    O₂ = ShrSlice (named 1) κ₂ u8 .own s₂ (view s₂ ∷ [])
+    abbrev O : Fml
+    O = ShrSlice (named 0) κ u8 .own s (view s ∷ [])
 
     abbrev bound : walkOf 𝓤 H A f.ended stayed (f.clauses 𝓤 H A at-mem run) .Ghost
-    bound = (((κ₁, (κ₂, tt)), (q₁, (q₂, tt)), bounds, a, vals), tt)
+    bound = (((κ, tt), (q, tt), bounds, a, vals), tt)
 
     abbrev Post : Val → SProp 𝓤
     Post = walkOf 𝓤 H A f.ended stayed (f.clauses 𝓤 H A at-mem run) .post bound
 
-    exits : (r : Hasher) → r ≡ fed (fed h (now s₁)) (now s₂) → Is R h (mach h ∷ [])
-        → ent 𝓤 (⋆ 𝓤 H A (‵ (R .own r (mach r ∷ [])) ∷ (‵ (flft κ₂ q₂) ⊛ ‵ ftrue) ∷ ‵ O₂ ∷ (‵ (flft κ₁ q₁) ⊛ ‵ ftrue) ∷ ‵ O₁ ∷ [])) (Post (mach r))
+    exits : (r : Hasher) → r ≡ fed h (now s) → Is R h (mach h ∷ [])
+        → ent 𝓤 (⋆ 𝓤 H A (‵ (R .own r (mach r ∷ [])) ∷ (‵ (flft κ q) ⊛ ‵ ftrue) ∷ ‵ O ∷ [])) (Post (mach r))
     exits r e is =
-        qed W (‵ (R .own r (mach r ∷ [])) ∷ (‵ (flft κ₂ q₂) ⊛ ‵ ftrue) ∷ ‵ O₂ ∷ (‵ (flft κ₁ q₁) ⊛ ‵ ftrue) ∷ ‵ O₁ ∷ []) ∵
-        suffices ! _ (ends-at 𝓤 H A f.ended stayed (f.clauses 𝓤 H A at-mem run) W bound (mach r) r (tt, (tt, (tt, tt))) (tt, (tt, (tt, tt)))) $ says ! e $
-        move ! (3 ∷ []) $ split ! $ move ! (0 ∷ 3 ∷ []) $ join ! $ frame ! $ move ! (2 ∷ 0 ∷ []) $ fjoin ! $ move ! (2 ∷ 0 ∷ []) $ fjoin ! $
+        qed W (‵ (R .own r (mach r ∷ [])) ∷ (‵ (flft κ q) ⊛ ‵ ftrue) ∷ ‵ O ∷ []) ∵
+        suffices ! _ (ends-at 𝓤 H A f.ended stayed (f.clauses 𝓤 H A at-mem run) W bound (mach r) r (tt, (tt, tt)) (tt, (tt, tt))) $ says ! e $
+        move ! (1 ∷ []) $ frame ! $ nothing ! $ move ! (2 ∷ 0 ∷ []) $ fjoin ! $
         owned ! R (Is R) (LL.makes T.the-type T′.the-plain 𝓤 H A) h _ is $ fjoin ! $ frame ! $ done !
 
     typed : (r : Hasher) → Is R r (mach r ∷ []) → Holds (hasTy T′.mir (mach r)) × WT (mach r)
     typed r is = LL.lawful T.the-type T′.the-laws 𝓤 H A W .typed r _ is .0
 
     module _ (C : Calls 𝓤 H) (Λ : Loops 𝓤 H) (fm : FmC 𝓤 H (W .laws) C) (known : Triple 𝓤 (C #update) (Upd 𝓤 H A at-mem run)) where
-      walk : Is R h (mach h ∷ []) → Is (ShrSlice (named 0) κ₁ u8) s₁ (view s₁ ∷ []) → Is (ShrSlice (named 1) κ₂ u8) s₂ (view s₂ ∷ [])
-          → ent 𝓤 (onEntry 𝓤 H A f.signature (κ₁, (κ₂, tt)) (q₁, (q₂, tt)) a vals) (WpFn 𝓤 H C Λ code.function (mach h ∷ view s₁ ∷ view s₂ ∷ []) Post)
-      walk is p₁ p₂ =
-          qed W ((‵ (flft κ₁ q₁) ⊛ ‵ (flft κ₂ q₂) ⊛ ‵ ftrue) ∷ ‵ (owns (R ∷ ShrSlice (named 0) κ₁ u8 ∷ ShrSlice (named 1) κ₂ u8 ∷ []) a vals) ∷ []) ∵ enter ! C Λ code.function (mach h ∷ view s₁ ∷ view s₂ ∷ []) _ $
-          alloc1 ! (λ l₀. alloc1 ! (λ l₁. alloc1 ! (λ l₂. alloc1 ! (λ l₃. alloc1 ! (λ l₄. alloc1 ! (λ l₅. alloc1 ! (λ l₆. alloc1 ! (λ l₇. alloc0 ! $ params1 ! $ pass1 ! (init ! 12 refl (typed h is)) $
-          pass1 ! (init ! 10 refl (shr-slice-lawful 𝓤 H A W (named 0) κ₁ u8 .typed s₁ (view s₁ ∷ []) p₁ .0)) $ pass1 ! (init ! 8 refl (shr-slice-lawful 𝓤 H A W (named 1) κ₂ u8 .typed s₂ (view s₂ ∷ []) p₂ .0)) $ pass0 ! $
-          -- [_7; …; _6; …; _5; …; _4; …; _3; …; _2; …; _1; …; room for _0; …; the tokens; what the parameters own]
-          assigns ! (of-opd ! (load ! (from ! (stop !)) (look ! 12 refl))) (from ! (stop !)) (init ! 6 refl (typed h is)) $
-          assigns ! (addr ! (from ! (stop !))) (from ! (stop !)) (init ! 2 refl (tt, tt)) $
-          -- the state is lent for a new lifetime, with a copy of the first slice
-          move ! (17 ∷ []) $ fsplit ! $ move ! (8 ∷ 0 ∷ []) $ use2 W (‵ (partAt R fullShare h l₄ 0)) (lies-in h l₄) $ lft-new ! tt (λ ν. move ! (1 ∷ []) $
-          use1 W (later (some (λ (δ : GName). ‵ (Ref ν l₄ δ h κ₁ q₁ s₁) ⊛ ‵ (flent (ν ∷ []) (Body (mem R) l₄ 0 δ))))) (lends-ref 𝓤 H A W R (named 0) (ν ∷ []) h l₄ 0) $ await ! tt $ pick ! (λ δ. split ! $
-          move ! (19 ∷ []) $ split ! $ move ! (5 ∷ []) $ fsplit ! $ use1 W (‵ O₁ ⊛ ‵ O₁) (shr-slice-copy 𝓤 H A W (named 0) κ₁ u8 .twice s₁ (view s₁ ∷ [])) $ split ! $
-          move ! (7 ∷ 3 ∷ []) $ join ! $ move ! (5 ∷ 1 ∷ []) $ fjoin ! $ use2 W (raw (Upd 𝓤 H A at-mem run .pre (to ν l₄ δ h κ₁ q₁ s₁))) (goes-update ν l₄ δ h κ₁ q₁ s₁) $
-          -- [what `update` asks; O₁; what second owns; its token; the lender's part; _7; …; _6; …; _5; …; …; _3; …; _2; …; _1; …; room for _0; …]
-          calls-at ! fm (Upd 𝓤 H A at-mem run) known (to ν l₄ δ h κ₁ q₁ s₁) (and-then ! (load ! (from ! (stop !)) (look ! 7 refl)) (and-then ! (load ! (from ! (stop !)) (look ! 14 refl)) (no-more !))) (λ u.
-          use1 W (later (some (λ (r : Unit {0}). ((‵ (flft (ν ∷ []) fullShare) ⊛ (‵ (flft κ₁ q₁) ⊛ ‵ ftrue)) ⊛ ‵ (Nothing .own r (u ∷ []))) ⊛ raw (ensured 𝓤 H A update.ended (update.clauses 𝓤 H A at-mem run) (ν ∷ [], (κ₁, tt)) (x ν l₄ δ h κ₁ q₁ s₁, (s₁, tt)) tt r)))) (id⊢ 𝓤 _) $ await ! tt $ pick ! (λ r.
-          split ! $ move ! (1 ∷ []) $ use1 W (some (λ (ws : Hasher × (Unit {0} × Unit {0})). ‵ (lasts update.ended (ν ∷ [], (κ₁, tt)) (x ν l₄ δ h κ₁ q₁ s₁, (s₁, tt)) ws) ⊛ raw (fact 𝓤 (ws .0 ≡ fed h (now s₁))))) (id⊢ 𝓤 _) $ pick ! (λ ws.
-          split ! $ move ! (1 ∷ []) $ heard ! (ws .0 ≡ fed h (now s₁)) (λ e. fsplit ! $ move ! (2 ∷ []) $ split ! $ move ! (1 ∷ []) $ feqL ! (λ eu.
-          -- [the tokens; the last value; …; O₁; what second owns; its token; the lender's part; _7; …; _6; …; _5; …]: the state is taken back
-          land ! (from ! (stop !)) (init ! 11 refl (fits-unit u eu)) $ split ! $ lft-end ! tt $ move ! (0 ∷ 7 ∷ 2 ∷ []) $
-          use3 W (later (‵ (partAt R fullShare (ws .0) l₄ 0))) (ref-back 𝓤 H A W R (ν ∷ []) δ (ws .0) l₄ 0) $ await ! tt $
-          -- [the state; first's token; …; O₁; what second owns; its token; _7; …; _6; …; _5; …; …; _3; …; _2; …; _1; …; room for _0; …]: and lent again
-          assigns ! (addr ! (from ! (stop !))) (from ! (stop !)) (init ! 6 refl (tt, tt)) $ lft-new ! tt (λ ν′. move ! (1 ∷ []) $
-          use1 W (later (some (λ (δ : GName). ‵ (Ref ν′ l₄ δ (ws .0) κ₂ q₂ s₂) ⊛ ‵ (flent (ν′ ∷ []) (Body (mem R) l₄ 0 δ))))) (lends-ref 𝓤 H A W R (named 0) (ν′ ∷ []) (ws .0) l₄ 0) $ await ! tt $ pick ! (λ δ′. split ! $
-          move ! (6 ∷ []) $ fsplit ! $ use1 W (‵ O₂ ⊛ ‵ O₂) (shr-slice-copy 𝓤 H A W (named 1) κ₂ u8 .twice s₂ (view s₂ ∷ [])) $ split ! $ move ! (9 ∷ []) $ split ! $
-          move ! (7 ∷ 0 ∷ []) $ join ! $ move ! (5 ∷ 2 ∷ []) $ fjoin ! $ use2 W (raw (Upd 𝓤 H A at-mem run .pre (to ν′ l₄ δ′ (ws .0) κ₂ q₂ s₂))) (goes-update ν′ l₄ δ′ (ws .0) κ₂ q₂ s₂) $
-          -- [what `update` asks; true; O₂; true; the lender's part; first's token; …; O₁; _7; …; _6; …; _5; …; …; _3; …; _2; …; _1; …; room for _0; …]
-          calls-at ! fm (Upd 𝓤 H A at-mem run) known (to ν′ l₄ δ′ (ws .0) κ₂ q₂ s₂) (and-then ! (load ! (from ! (stop !)) (look ! 8 refl)) (and-then ! (load ! (from ! (stop !)) (look ! 15 refl)) (no-more !))) (λ u′.
-          use1 W (later (some (λ (r : Unit {0}). ((‵ (flft (ν′ ∷ []) fullShare) ⊛ (‵ (flft κ₂ q₂) ⊛ ‵ ftrue)) ⊛ ‵ (Nothing .own r (u′ ∷ []))) ⊛ raw (ensured 𝓤 H A update.ended (update.clauses 𝓤 H A at-mem run) (ν′ ∷ [], (κ₂, tt)) (x ν′ l₄ δ′ (ws .0) κ₂ q₂ s₂, (s₂, tt)) tt r)))) (id⊢ 𝓤 _) $ await ! tt $ pick ! (λ r′.
-          split ! $ move ! (1 ∷ []) $ use1 W (some (λ (zs : Hasher × (Unit {0} × Unit {0})). ‵ (lasts update.ended (ν′ ∷ [], (κ₂, tt)) (x ν′ l₄ δ′ (ws .0) κ₂ q₂ s₂, (s₂, tt)) zs) ⊛ raw (fact 𝓤 (zs .0 ≡ fed (ws .0) (now s₂))))) (id⊢ 𝓤 _) $ pick ! (λ zs.
-          split ! $ move ! (1 ∷ []) $ heard ! (zs .0 ≡ fed (ws .0) (now s₂)) (λ e′. fsplit ! $ move ! (2 ∷ []) $ split ! $ move ! (1 ∷ []) $ feqL ! (λ eu′.
-          land ! (from ! (stop !)) (store ! 14 refl (fits-unit u′ eu′)) $ split ! $ lft-end ! tt $ move ! (0 ∷ 7 ∷ 2 ∷ []) $
-          use3 W (later (‵ (partAt R fullShare (zs .0) l₄ 0))) (ref-back 𝓤 H A W R (ν′ ∷ []) δ′ (zs .0) l₄ 0) $ await ! tt $
-          use1 W (‵ (fat fullShare T′.mir l₄ 0 (mach (zs .0))) ⊛ ‵ (R .own (zs .0) (mach (zs .0) ∷ []))) (lies-out (zs .0) l₄) $ split ! $ move ! (1 ∷ []) $ peeks ! R (Is R) (shows 𝓤 H A R) (zs .0) (mach (zs .0) ∷ []) (λ is′.
-          -- [what the state owns; _4; second's token; …; true; O₂; true; first's token; …; O₁; _7; …; _6; …; _5; …; …; _3; …; _2; …; _1; …; room for _0; …]
-          assigns ! (of-opd ! (load ! (from ! (stop !)) (look ! 1 refl))) (from ! (stop !)) (init ! 23 refl (typed (zs .0) is′)) $
-          returns ! (look ! 23 refl) $ forget ! 1 refl $ forget ! 10 refl $ forget ! 12 refl $ forget ! 14 refl $ forget ! 17 refl $ forget ! 19 refl $ forget ! 21 refl $ forget ! 23 refl $
-          move ! (23 ∷ 24 ∷ []) $ free1 ! $ move ! (21 ∷ 22 ∷ []) $ free1 ! $ move ! (19 ∷ 20 ∷ []) $ free1 ! $ move ! (17 ∷ 18 ∷ []) $ free1 ! $ move ! (1 ∷ 16 ∷ []) $ free1 ! $
-          move ! (13 ∷ 14 ∷ []) $ free1 ! $ move ! (11 ∷ 12 ∷ []) $ free1 ! $ move ! (9 ∷ 10 ∷ []) $ free1 ! $ free0 ! $
-          keep ! (0 ∷ 1 ∷ 4 ∷ 6 ∷ 8 ∷ []) $ by ! (exits (zs .0) (e′ ∙ ap (λ (y : Hasher). fed y (now s₂)) e) is))))))))))))))))))))))))
+      walk : Is R h (mach h ∷ []) → Is (ShrSlice (named 0) κ u8) s (view s ∷ [])
+          → ent 𝓤 (onEntry 𝓤 H A f.signature (κ, tt) (q, tt) a vals) (WpFn 𝓤 H C Λ code.function (mach h ∷ view s ∷ []) Post)
+      walk is p =
+          qed W ((‵ (flft κ q) ⊛ ‵ ftrue) ∷ ‵ (owns (R ∷ ShrSlice (named 0) κ u8 ∷ []) a vals) ∷ []) ∵ enter ! C Λ code.function (mach h ∷ view s ∷ []) _ $
+          alloc1 ! (λ l₀. alloc1 ! (λ l₁. alloc1 ! (λ l₂. alloc1 ! (λ l₃. alloc1 ! (λ l₄. alloc1 ! (λ l₅. alloc0 ! $ params1 ! $ pass1 ! (init ! 8 refl (typed h is)) $
+          pass1 ! (init ! 6 refl (shr-slice-lawful 𝓤 H A W (named 0) κ u8 .typed s (view s ∷ []) p .0)) $ pass0 ! $
+          -- [_5; …; _4; …; _3; …; _2; …; _1; …; room for _0; …; the tokens; what the parameters own]
+          assigns ! (of-opd ! (load ! (from ! (stop !)) (look ! 8 refl))) (from ! (stop !)) (init ! 4 refl (typed h is)) $
+          assigns ! (addr ! (from ! (stop !))) (from ! (stop !)) (init ! 0 refl (tt, tt)) $
+          -- the state is lent for a new lifetime, with a copy of the slice
+          move ! (13 ∷ []) $ fsplit ! $ move ! (6 ∷ 0 ∷ []) $ use2 W (‵ (partAt R fullShare h l₃ 0)) (lies-in h l₃) $ lft-new ! tt (λ ν. move ! (1 ∷ []) $
+          use1 W (later (some (λ (δ : GName). ‵ (Ref ν l₃ δ h κ q s) ⊛ ‵ (flent (ν ∷ []) (Body (mem R) l₃ 0 δ))))) (lends-ref 𝓤 H A W R (named 0) (ν ∷ []) h l₃ 0) $ await ! tt $ pick ! (λ δ. split ! $
+          move ! (15 ∷ []) $ split ! $ move ! (5 ∷ []) $ fsplit ! $ use1 W (‵ O ⊛ ‵ O) (shr-slice-copy 𝓤 H A W (named 0) κ u8 .twice s (view s ∷ [])) $ split ! $
+          move ! (7 ∷ 3 ∷ []) $ join ! $ move ! (5 ∷ 1 ∷ []) $ fjoin ! $ use2 W (raw (Upd 𝓤 H A at-mem run .pre (to ν l₃ δ h κ q s))) (goes-update ν l₃ δ h κ q s) $
+          -- [what `update` asks; O; true; true; the lender's part; _5; …; _4; …; …; _2; …; _1; …; room for _0; …]
+          calls-at ! fm (Upd 𝓤 H A at-mem run) known (to ν l₃ δ h κ q s) (and-then ! (load ! (from ! (stop !)) (look ! 5 refl)) (and-then ! (load ! (from ! (stop !)) (look ! 10 refl)) (no-more !))) (λ u.
+          use1 W (later (some (λ (r : Unit {0}). ((‵ (flft (ν ∷ []) fullShare) ⊛ (‵ (flft κ q) ⊛ ‵ ftrue)) ⊛ ‵ (Nothing .own r (u ∷ []))) ⊛ raw (ensured 𝓤 H A update.ended (update.clauses 𝓤 H A at-mem run) (ν ∷ [], (κ, tt)) (x ν l₃ δ h κ q s, (s, tt)) tt r)))) (id⊢ 𝓤 _) $ await ! tt $ pick ! (λ r.
+          split ! $ move ! (1 ∷ []) $ use1 W (some (λ (ws : Hasher × (Unit {0} × Unit {0})). ‵ (lasts update.ended (ν ∷ [], (κ, tt)) (x ν l₃ δ h κ q s, (s, tt)) ws) ⊛ raw (fact 𝓤 (ws .0 ≡ fed h (now s))))) (id⊢ 𝓤 _) $ pick ! (λ ws.
+          split ! $ move ! (1 ∷ []) $ heard ! (ws .0 ≡ fed h (now s)) (λ e. fsplit ! $ move ! (2 ∷ []) $ split ! $ move ! (1 ∷ []) $ feqL ! (λ eu.
+          -- [the tokens; the last value; …; O; true; true; the lender's part; _5; …; _4; …]: the state is taken back
+          land ! (from ! (stop !)) (init ! 9 refl (fits-unit u eu)) $ split ! $ lft-end ! tt $ move ! (0 ∷ 7 ∷ 2 ∷ []) $
+          use3 W (later (‵ (partAt R fullShare (ws .0) l₃ 0))) (ref-back 𝓤 H A W R (ν ∷ []) δ (ws .0) l₃ 0) $ await ! tt $
+          use1 W (‵ (fat fullShare T′.mir l₃ 0 (mach (ws .0))) ⊛ ‵ (R .own (ws .0) (mach (ws .0) ∷ []))) (lies-out (ws .0) l₃) $ split ! $ move ! (1 ∷ []) $ peeks ! R (Is R) (shows 𝓤 H A R) (ws .0) (mach (ws .0) ∷ []) (λ is′.
+          -- [what the state owns; _3; the slice's token; …; O; true; true; _5; …; _4; …; …; _2; …; _1; …; room for _0; …]
+          assigns ! (of-opd ! (load ! (from ! (stop !)) (look ! 1 refl))) (from ! (stop !)) (init ! 16 refl (typed (ws .0) is′)) $
+          returns ! (look ! 16 refl) $ forget ! 1 refl $ forget ! 7 refl $ forget ! 9 refl $ forget ! 12 refl $ forget ! 14 refl $ forget ! 16 refl $
+          move ! (16 ∷ 17 ∷ []) $ free1 ! $ move ! (14 ∷ 15 ∷ []) $ free1 ! $ move ! (12 ∷ 13 ∷ []) $ free1 ! $ move ! (1 ∷ 11 ∷ []) $ free1 ! $
+          move ! (8 ∷ 9 ∷ []) $ free1 ! $ move ! (6 ∷ 7 ∷ []) $ free1 ! $ free0 ! $
+          keep ! (0 ∷ 1 ∷ 3 ∷ []) $ by ! (exits (ws .0) e is)))))))))))))))
 
 module _ {M : Type 1} (𝓤 : URA M) (H : Heap 𝓤) (A : Atoms 𝓤) (W : Given 𝓤 H A) (mem : Memory → SProp 𝓤) (run : Routine → Fun 𝓤) where
   fed-with-walks : (C : Calls 𝓤 H) (Λ : Loops 𝓤 H) → FmC 𝓤 H (W .laws) C → Triple 𝓤 (C #update) (Upd 𝓤 H A mem run) → Walks 𝓤 H A f.ended stayed (WpFn 𝓤 H C Λ code.function) (f.clauses 𝓤 H A mem run)
-  fed-with-walks C Λ fm known = walked 𝓤 H A f.ended stayed (f.clauses 𝓤 H A mem run) (WpFn 𝓤 H C Λ code.function) (λ κs. (LL.vals T.the-type T′.the-laws, (slice-vals, (slice-vals, tt)))) (λ κs. (LL.tells T.the-type T′.the-laws, (shr-slice-tells (named 0) (κs .0) u8, (shr-slice-tells (named 1) (κs .1 .0) u8, tt))))
-      (λ κs qs bounds a g are. via 𝓤 _ (fst∗ 𝓤 _ (emp 𝓤)) (walk 𝓤 H A W mem run (κs .0) (κs .1 .0) bounds (qs .0) (qs .1 .0) (a .0) (a .1 .0) (a .1 .1 .0) C Λ fm known (are .0) (are .1 .0) (are .1 .1 .0)))
+  fed-with-walks C Λ fm known = walked 𝓤 H A f.ended stayed (f.clauses 𝓤 H A mem run) (WpFn 𝓤 H C Λ code.function) (λ κs. (LL.vals T.the-type T′.the-laws, (slice-vals, tt))) (λ κs. (LL.tells T.the-type T′.the-laws, (shr-slice-tells (named 0) (κs .0) u8, tt)))
+      (λ κs qs bounds a g are. via 𝓤 _ (fst∗ 𝓤 _ (emp 𝓤)) (walk 𝓤 H A W mem run (κs .0) bounds (qs .0) (a .0) (a .1 .0) C Λ fm known (are .0) (are .1 .0)))
 
-  goes : AllGo 𝓤 H A W 2 (f.signature .params) (f.ended .kept) stayed
-  goes = (goes-none 𝓤 H A W 2 (λ _. R) yes (λ κs x f. refl), (goes-none-slice 𝓤 H A W 2 (0 ∷ []) tt (plain (λ _. u8)) yes, (goes-none-slice 𝓤 H A W 2 (1 ∷ []) tt (plain (λ _. u8)) yes, tt)))
+  goes : AllGo 𝓤 H A W 1 (f.signature .params) (f.ended .kept) stayed
+  goes = (goes-none 𝓤 H A W 1 (λ _. R) yes (λ κs x f. refl), (goes-none-slice 𝓤 H A W 1 (0 ∷ []) tt (plain (λ _. u8)) yes, tt))
 
 fed-with-meets : {M : Type 1} (𝓤 : URA M) (H : Heap 𝓤) (A : Atoms 𝓤) → Given 𝓤 H A → (mem : Memory → SProp 𝓤) (run : Routine → Fun 𝓤) (𝓣 : Tables 𝓤 H) → Triple 𝓤 (𝓣 .C #update) (Upd 𝓤 H A mem run)
     → Meets 𝓤 H A f.signature (WpFn 𝓤 H (𝓣 .C) (𝓣 .Λ) code.function) (f.spec 𝓤 H A mem run)

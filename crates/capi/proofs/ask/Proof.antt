@@ -2,6 +2,7 @@
 use denote.Ref.{now}
 use mathlib.Core.Path.{_∙_}
 use Rattle.capi.proofs.Asking.{ask-refused, ask-found}
+use Rattle.answer_numbers.proofs.Kept.{told}
 use borrow.Author.Needs.{needs}
 use Rattle.capi.proofs.ask.Statement.{statement}
 use Rattle.capi.proofs.ask.Tie as tie
@@ -9,7 +10,7 @@ use Rattle.capi.proofs.ask.Tie as tie
 returns : tie.Need-returns
 returns c =
     let a = c .before .before .before .before .before .before .args in
-    c .refusal .ensures ∙ ask-refused (now (a .file)) (c .before .before .before .before .read-from .ensures) (c .before .before .e .given .1) (a .kind) (a .index) (a .second)
+    told (c .refusal .ensures) ∙ ask-refused (now (a .file)) (c .before .before .before .before .read-from .ensures) (c .before .before .e .given .1) (a .kind) (a .index) (a .second)
 
 returns-2 : tie.Need-returns-2
 returns-2 c =

@@ -6,10 +6,12 @@ use denote.Ref.{now}
 use Rattle.reading.specs.Reader.{got}
 use Rattle.reading.specs.Places.{Reads}
 use Rattle.reading.proofs.Passing.{reads-told}
+use Rattle.reading.proofs.Given.{step-at, reads-at}
 use Rattle.base.specs.Small.{constTypeNumber}
 use Rattle.constant_pool.specs.Lookups.{constantOver}
 use Rattle.constant_pool.specs.Answers.{headFrom, HeadFits}
 use Rattle.constant_pool.specs.declared.HeadAnswer.the-variants as head
+use Rattle.constant_pool.proofs.Entries.{stays-constant}
 use borrow.Author.Needs.{needs}
 use Rattle.constant_pool.proofs.read_entry.Statement.{statement}
 use Rattle.constant_pool.proofs.read_entry.Tie as tie
@@ -19,7 +21,7 @@ told : (c : tie.After-known-told2) → let a = c .before .before .before .before
     let v = c .before .const-type .given .0 in Reads (constantOver (a .base) (now (a .s))) (now (a .s)) (a .at) (headFrom (a .base) (now (a .s)) (a .at) (head.Head (v .0) (v .1 .0)))
 told c =
     let a = c .before .before .before .before .before .args in
-    reads-told (constantOver (a .base) (now (a .s))) (now (a .s)) (a .at) (ap (headFrom (a .base) (now (a .s)) (a .at)) (c .before .const-type .given .1)) (c .before .before .before .read-head .ensures .0 (a .base))
+    reads-told (constantOver (a .base) (now (a .s))) (now (a .s)) (a .at) (ap (headFrom (a .base) (now (a .s)) (a .at)) (c .before .const-type .given .1)) (reads-at (stays-constant _ _) _ (c .before .before .before .read-head .ensures .0 (a .base)))
 
 fits : (c : tie.After-known-told2) → let v = c .before .const-type .given .0 in HeadFits (c .before .before .before .before .before .args .at) (head.Head (v .0) (v .1 .0))
 fits c = subst (HeadFits (c .before .before .before .before .before .args .at)) (c .before .const-type .given .1) (c .before .before .before .read-head .ensures .1)
@@ -36,12 +38,12 @@ kept-at-requires c κs = ((omega (arith, told c .0, fits c .0), omega arith), fi
 returns : tie.Need-returns
 returns c =
     let a = c .before .before .before .before .before .args in
-    (reads-told (constantOver (a .base) (now (a .s))) (now (a .s)) (a .at) (ap (headFrom (a .base) (now (a .s)) (a .at)) (c .before .e .given .1)) (c .before .before .before .read-head .ensures .0 (a .base)), tt)
+    (step-at _ _ _ _ (reads-told (constantOver (a .base) (now (a .s))) (now (a .s)) (a .at) (ap (headFrom (a .base) (now (a .s)) (a .at)) (c .before .e .given .1)) (reads-at (stays-constant _ _) _ (c .before .before .before .read-head .ensures .0 (a .base)))), tt)
 
 returns-2 : tie.Need-returns-2
 returns-2 c =
     let v = c .before .before .const-type .given .0 in
-    ((told (c .before) .0, told (c .before) .1 ∙ ap (λ k. got (record { kind = constTypeNumber (v .0); kept = k }) (drop (v .1 .0) (now (c .before .before .before .before .before .before .args .s)))) (sym (c .kept-at .ensures .0))), c .kept-at .ensures .1)
+    (step-at _ _ _ _ (told (c .before) .0, told (c .before) .1 ∙ ap (λ k. got (record { kind = constTypeNumber (v .0); kept = k }) (drop (v .1 .0) (now (c .before .before .before .before .before .before .args .s)))) (sym (c .kept-at .ensures .0))), c .kept-at .ensures .1)
 
 pub read-entry-spec : {M : Type 1} → statement M
 read-entry-spec =

@@ -6,6 +6,7 @@ use native.Mathlib.Omega.{arith}
 use lib.ListN.{length, drop, length-drop}
 use denote.Ref.{now}
 use Rattle.reading.specs.Reader.{fault, got}
+use Rattle.reading.proofs.Given.{step-at}
 use Rattle.format.specs.Faults.{invalidConstantType}
 use Rattle.format.specs.Parts.{byPlace}
 use Rattle.format.specs.Constants.{sizeFits}
@@ -22,7 +23,7 @@ returns c =
     let a = c .before .before .args in
     let s = now (a .s) in
     let l = length-drop (a .at) s in
-    (λ base. constant-short (byPlace (placeOf base s)) (drop (a .at) s) (omega arith), tt)
+    (λ base. step-at _ _ _ _ (constant-short (byPlace (placeOf base s)) (drop (a .at) s) (omega arith)), tt)
 
 returns-2 : tie.Need-returns-2
 returns-2 c =
@@ -32,7 +33,7 @@ returns-2 c =
     let e = sym (ap constTypeFrom (t .1)) ∙ c .before .before .before .before .before .before .from-u8 .ensures in
     let f = sym (c .before .before .size-fits .ensures) ∙ c .before .if2 .taken in
     let h : a .at + 4 ≤ length s = omega arith in
-    (λ base. constant-few (byPlace (placeOf base s)) s (a .at) (c .before .before .before .before .before .before .before .before .u16-at .result) h (c .before .before .before .before .before .before .before .before .u16-at .ensures) (c .before .before .before .before .before .before .before .u8-at .result) (constTypeNumber (t .0 .0)) (c .before .before .before .before .before .before .before .u8-at .ensures) e f (c .if3 .taken), tt)
+    (λ base. step-at _ _ _ _ (constant-few (byPlace (placeOf base s)) s (a .at) (c .before .before .before .before .before .before .before .before .u16-at .result) h (c .before .before .before .before .before .before .before .before .u16-at .ensures) (c .before .before .before .before .before .before .before .u8-at .result) (constTypeNumber (t .0 .0)) (c .before .before .before .before .before .before .before .u8-at .ensures) e f (c .if3 .taken)), tt)
 
 returns-3 : tie.Need-returns-3
 returns-3 c =
@@ -46,7 +47,7 @@ returns-3 c =
     let l : a .at + 4 + n ≤ length s = omega arith in
     let m : a .at + 4 ≤ a .at + 4 + n = omega arith in
     let z : n ≡ a .at + 4 + n - (a .at + 4) = omega arith in (
-      λ base. (
+      λ base. step-at _ _ _ _ (
         l,
         constant-whole (byPlace (placeOf base s)) s (a .at) n h (c .before .before .before .before .before .before .before .before .u16-at .ensures) (c .before .before .before .before .before .before .before .u8-at .result) (constTypeNumber (t .0 .0)) (c .before .before .before .before .before .before .before .u8-at .ensures) e f (c .if3 .left)
             ∙ ap (λ (k : ℕ). got (record { kind = constTypeNumber (t .0 .0); kept = keptOver base s (constTypeNumber (t .0 .0)) (a .at + 4) k }) (drop (a .at + 4 + n) s)) z,
@@ -61,7 +62,7 @@ returns-4 c =
     let v = c .before .e .given in
     let e = sym (ap constTypeFrom (v .1)) ∙ c .before .before .before .from-u8 .ensures in
     let h : a .at + 4 ≤ length s = omega arith in
-    (λ base. constant-type (byPlace (placeOf base s)) s (a .at) (c .before .before .before .before .before .u16-at .result) h (c .before .before .before .before .before .u16-at .ensures) (c .before .before .before .before .u8-at .result) (faultOf (v .0 .0)) (c .before .before .before .before .u8-at .ensures) e, tt)
+    (λ base. step-at _ _ _ _ (constant-type (byPlace (placeOf base s)) s (a .at) (c .before .before .before .before .before .u16-at .result) h (c .before .before .before .before .before .u16-at .ensures) (c .before .before .before .before .u8-at .result) (faultOf (v .0 .0)) (c .before .before .before .before .u8-at .ensures) e), tt)
 
 returns-5 : tie.Need-returns-5
 returns-5 c =
@@ -72,7 +73,7 @@ returns-5 c =
     let f = sym (c .before .before .size-fits .ensures) ∙ c .before .if2 .left in
     let h : a .at + 4 ≤ length s = omega arith in
     let k = ap (λ (n : ℕ). fault (invalidConstantType n)) (sym (c .number .ensures)) in
-    (λ base. constant-size (byPlace (placeOf base s)) s (a .at) (c .before .before .before .before .before .before .before .before .u16-at .result) h (c .before .before .before .before .before .before .before .before .u16-at .ensures) (c .before .before .before .before .before .before .before .u8-at .result) (constTypeNumber (t .0 .0)) (c .before .before .before .before .before .before .before .u8-at .ensures) e f ∙ k, tt)
+    (λ base. step-at _ _ _ _ (constant-size (byPlace (placeOf base s)) s (a .at) (c .before .before .before .before .before .before .before .before .u16-at .result) h (c .before .before .before .before .before .before .before .before .u16-at .ensures) (c .before .before .before .before .before .before .before .u8-at .result) (constTypeNumber (t .0 .0)) (c .before .before .before .before .before .before .before .u8-at .ensures) e f ∙ k), tt)
 
 pub read-head-spec : {M : Type 1} → statement M
 read-head-spec =

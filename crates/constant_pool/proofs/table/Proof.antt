@@ -7,9 +7,11 @@ use denote.Ref.{now}
 use Rattle.reading.specs.Fault.{shortInput}
 use Rattle.reading.specs.Answer.{itemOf}
 use Rattle.reading.proofs.Reading.{number-short}
+use Rattle.reading.proofs.Given.{reads-at}
 use Rattle.reading.proofs.From.{from-short, PassedFrom, from-none, from-near, from-far, from-halt, from-all}
 use Rattle.constant_pool.specs.Lookups.{constantOver}
 use Rattle.constant_pool.specs.Answers.{headFrom}
+use Rattle.constant_pool.proofs.Entries.{stays-constant}
 use borrow.Author.Needs.{needs}
 use Rattle.constant_pool.proofs.table.Statement.{statement}
 use Rattle.constant_pool.proofs.table.Tie as tie
@@ -36,17 +38,17 @@ returns-2 : tie.Need-returns-2 Inv-loop μ-loop
 returns-2 c =
     let s = now (c .before .before .before .before .before .before .before .before .before .args .s) in
     let w : 2 ≤ length s = omega arith in
-    λ base. from-halt _ _ _ _ w (c .before .before .before .before .before .before .u16-at .ensures) _ _ _ _ (c .before .before .before .before .loop-test .taken) (c .before .before .before .before .before .loop .inv base) (ap (headFrom base s (c .before .before .before .before .before .loop .p)) (c .before .e .given .1)) (c .before .before .before .read-head .ensures .0 base)
+    λ base. from-halt _ _ _ _ w (c .before .before .before .before .before .before .u16-at .ensures) _ _ _ _ (c .before .before .before .before .loop-test .taken) (c .before .before .before .before .before .loop .inv base) (ap (headFrom base s (c .before .before .before .before .before .loop .p)) (c .before .e .given .1)) (reads-at (stays-constant _ _) _ (c .before .before .before .read-head .ensures .0 base))
 
 loop-again : tie.Need-loop-again Inv-loop μ-loop
 loop-again c =
     let s = now (c .before .before .before .before .before .before .before .before .before .before .args .s) in
-    λ base. from-near _ _ _ _ _ _ _ (c .before .before .before .before .before .loop-test .taken) (c .before .before .before .before .before .before .loop .inv base) _ _ (c .if2 .taken) (ap (headFrom base s (c .before .before .before .before .before .before .loop .p)) (c .before .before .end .given .1)) (c .before .before .before .before .read-head .ensures .0 base)
+    λ base. from-near _ _ _ _ _ _ _ (c .before .before .before .before .before .loop-test .taken) (c .before .before .before .before .before .before .loop .inv base) _ _ (c .if2 .taken) (ap (headFrom base s (c .before .before .before .before .before .before .loop .p)) (c .before .before .end .given .1)) (reads-at (stays-constant _ _) _ (c .before .before .before .before .read-head .ensures .0 base))
 
 loop-again-2 : tie.Need-loop-again-2 Inv-loop μ-loop
 loop-again-2 c =
     let s = now (c .before .before .before .before .before .before .before .before .before .before .args .s) in
-    λ base. from-far _ _ _ _ _ _ _ (c .before .before .before .before .before .loop-test .taken) (c .before .before .before .before .before .before .loop .inv base) _ _ (c .if2 .left) (ap (headFrom base s (c .before .before .before .before .before .before .loop .p)) (c .before .before .end .given .1)) (c .before .before .before .before .read-head .ensures .0 base)
+    λ base. from-far _ _ _ _ _ _ _ (c .before .before .before .before .before .loop-test .taken) (c .before .before .before .before .before .before .loop .inv base) _ _ (c .if2 .left) (ap (headFrom base s (c .before .before .before .before .before .before .loop .p)) (c .before .before .end .given .1)) (reads-at (stays-constant _ _) _ (c .before .before .before .before .read-head .ensures .0 base))
 
 returns-3 : tie.Need-returns-3 Inv-loop μ-loop
 returns-3 c =

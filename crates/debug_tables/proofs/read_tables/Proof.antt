@@ -5,9 +5,11 @@ use native.Mathlib.Omega.{arith}
 use denote.Ref.{now}
 use lib.ListN.{length}
 use Rattle.reading.proofs.Passing.{reads-told}
+use Rattle.reading.proofs.Given.{reads-at}
 use Rattle.debug_tables.specs.Starts.{payloadStart}
 use Rattle.debug_tables.specs.Answers.{kindIn, payloadStep}
 use Rattle.debug_tables.proofs.Rows.{Going, read-short, read-few, going-start, going-end, going-bad, going-on}
+use Rattle.debug_tables.proofs.Payloads.{stays-start}
 use borrow.Author.Needs.{needs}
 use Rattle.debug_tables.proofs.read_tables.Statement.{statement}
 use Rattle.debug_tables.proofs.read_tables.Tie as tie
@@ -46,7 +48,7 @@ returns-3 c =
     let k = kindIn (c .before .before .before .before .before .kind-of .result) in
     let size = c .before .before .before .before .u32-at .result in
     going-bad s (c .before .before .before .before .before .before .before .before .before .before .before .u16-at .result) (l .p) (l .i) (l .tables) (c .before .before .before .before .before .before .u16-at2 .result) size (l .inv .2) (l .inv .1) (c .before .before .before .before .before .before .before .loop-test .taken)
-    (c .before .before .before .before .before .before .u16-at2 .ensures) (c .before .before .before .before .u32-at .ensures) k (c .before .before .before .before .before .kind-of .ensures) (l .inv .4) _ (reads-told (payloadStart k size (l .p)) s (l .p) (ap payloadStep (c .before .e .given .1)) (c .before .before .before .read-payload .ensures))
+    (c .before .before .before .before .before .before .u16-at2 .ensures) (c .before .before .before .before .u32-at .ensures) k (c .before .before .before .before .before .kind-of .ensures) (l .inv .4) _ (reads-told (payloadStart k size (l .p)) s (l .p) (ap payloadStep (c .before .e .given .1)) (reads-at (stays-start s k size (l .p)) _ (c .before .before .before .read-payload .ensures)))
 
 loop-again : tie.Need-loop-again Inv-loop μ-loop
 loop-again c =
@@ -56,7 +58,7 @@ loop-again c =
     let k = kindIn (c .before .before .before .before .before .before .kind-of .result) in
     let size = c .before .before .before .before .before .u32-at .result in
     let v = c .before .before .t .given in
-    let q = reads-told (payloadStart k size (l .p)) s (l .p) (ap payloadStep (v .1)) (c .before .before .before .before .read-payload .ensures) in (
+    let q = reads-told (payloadStart k size (l .p)) s (l .p) (ap payloadStep (v .1)) (reads-at (stays-start s k size (l .p)) _ (c .before .before .before .before .read-payload .ensures)) in (
       omega arith,
       q .0,
       l .inv .2,

@@ -8,6 +8,7 @@ use denote.Ref.{now}
 use Rattle.utf8.specs.Utf8.{goodLength}
 use Rattle.reading.specs.Fault.{badText}
 use Rattle.reading.specs.Reader.{fault}
+use Rattle.reading.proofs.Given.{step-at}
 use Rattle.debug_text.proofs.Texts.{text-short, text-good, text-bad}
 use borrow.Author.Needs.{needs}
 use Rattle.debug_text.proofs.read_text.Statement.{statement}
@@ -18,19 +19,19 @@ good : (c : tie.After-good-length) → let a = c .before .before .before .before
 good c = c .good-length .ensures ∙ simp add-sub-cancel-left
 
 returns : tie.Need-returns
-returns c = let a = c .before .before .args in text-short (a .base) (now (a .s)) (a .at) (a .n) (c .if1 .taken)
+returns c = let a = c .before .before .args in step-at _ _ _ _ (text-short (a .base) (now (a .s)) (a .at) (a .n) (c .if1 .taken))
 
 returns-2 : tie.Need-returns-2
 returns-2 c =
     let a = c .before .before .before .before .before .args in
     let e = good (c .before) in
-    text-bad (a .base) (now (a .s)) (a .at) (a .n) (omega arith) (rw e at (c .if2 .taken)) ∙ ap (λ k. fault (badText (length (now (a .s)) - a .at - k))) (sym e)
+    step-at _ _ _ _ (text-bad (a .base) (now (a .s)) (a .at) (a .n) (omega arith) (rw e at (c .if2 .taken)) ∙ ap (λ k. fault (badText (length (now (a .s)) - a .at - k))) (sym e))
 
 returns-3 : tie.Need-returns-3
 returns-3 c =
     let a = c .before .before .before .before .before .args in
     let e = good (c .before) in
-    (omega arith, text-good (a .base) (now (a .s)) (a .at) (a .n) (omega arith) (rw e at (c .if2 .left)))
+    step-at _ _ _ _ (omega arith, text-good (a .base) (now (a .s)) (a .at) (a .n) (omega arith) (rw e at (c .if2 .left)))
 
 pub read-text-spec : {M : Type 1} → statement M
 read-text-spec =

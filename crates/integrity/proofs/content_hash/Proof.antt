@@ -1,8 +1,5 @@
 -- `integrity::content_hash` meets its contract: 10, 1 and 4 in this order, and otherwise the digest of the hashed string.
-use mathlib.Core.Path.{ap, _∙_}
-use Rattle.reading.specs.Numbers.{wordBytes}
-use Rattle.reading.specs.Answer.{found}
-use Rattle.hasher.specs.State.{finished}
+use mathlib.Core.Path.{_∙_}
 use Rattle.integrity.proofs.Strings.{when-not, when-so, hash-long, hash-short, hash-outside, hash-found}
 use borrow.Author.Needs.{needs}
 use Rattle.integrity.proofs.content_hash.Statement.{statement}
@@ -19,9 +16,9 @@ returns-3 c = hash-outside _ _ (c .before .before .before .if1 .left) (c .before
 
 returns-4 : tie.Need-returns-4
 returns-4 c =
-    let state = c .before .fed-sections .ensures in
-    ap found (c .finish .ensures ∙ ap wordBytes (ap finished (rw (state, c .before .before .update .ensures, c .before .before .before .before .new .ensures, c .before .before .before .before .before .masked .ensures))))
-    ∙ hash-found _ _ (c .before .before .before .before .before .before .before .before .before .if1 .left) (c .before .before .before .before .before .before .before .before .if2 .left) (when-so _ (c .before .before .before .before .before .before .before .all-hashable .ensures) (c .before .before .before .before .before .before .if3 .left))
+    c .content-hash-of .ensures
+    ∙ rw (c .before .bytes-of4 .ensures, c .before .before .bytes-of3 .ensures, c .before .before .before .bytes-of2 .ensures, c .before .before .before .before .bytes-of .ensures, c .before .before .before .before .before .before .header-of .ensures)
+    (hash-found _ _ (c .before .before .before .before .before .before .before .before .before .before .if1 .left) (c .before .before .before .before .before .before .before .before .before .if2 .left) (when-so _ (c .before .before .before .before .before .before .before .before .all-hashable .ensures) (c .before .before .before .before .before .before .before .if3 .left)))
 
 pub content-hash-spec : {M : Type 1} → statement M
 content-hash-spec =
@@ -33,7 +30,7 @@ content-hash-spec =
     returns-3
     (λ c κs. search needs)
     (λ c κs. search needs)
-    (λ c. search needs)
+    (λ c κs. search needs)
     (λ c κs. search needs)
     (λ c κs. search needs)
     (λ c κs. search needs)

@@ -5,10 +5,10 @@ use Rattle.table_lines.proofs.lines.Statement.{statement}
 use Rattle.table_lines.proofs.lines.Tie as tie
 
 returns : tie.Need-returns
-returns c = rw (← c .before .before .before .tables .ensures .0, c .before .e .given .1) refl
+returns c = rw (← c .before .before .before .debug-tables .ensures, c .before .e .given .1) refl
 
 returns-2 : tie.Need-returns-2
-returns-2 c = rw (← c .before .before .before .before .tables .ensures .0, c .before .before .starts .given .1) refl
+returns-2 c = rw (← c .before .before .before .before .debug-tables .ensures, c .before .before .starts .given .1) refl
 
 pub lines-spec : {M : Type 1} → statement M
 lines-spec =

@@ -4,10 +4,13 @@ use mathlib.Core.Path.{refl, subst, _∙_}
 use native.Mathlib.Omega.{arith}
 use denote.Ref.{now}
 use Rattle.base.specs.Section.{placeIn}
-use Rattle.line_steps.specs.Steps.{nextLineAt, roomOf}
+use Rattle.text.proofs.Putting.{wrote-length}
+use Rattle.text.proofs.Fitting.{puts-none}
+use Rattle.line_steps.specs.Steps.{nextLineAt}
 use Rattle.line_steps.specs.Answers.{PutsNext}
+use Rattle.line_steps.proofs.Stepping.{next-full, next-end, next-put}
 use Rattle.table_lines.specs.Walks.{entriesText}
-use Rattle.table_lines.proofs.Walking.{Left, left-start, left-end, left-none, left-full, left-more}
+use Rattle.table_lines.proofs.Walking.{Left, left-start, left-end, left-none, left-full, left-more, line-left}
 use Rattle.table_lines.proofs.Falling.{falls}
 use borrow.Author.Needs.{needs}
 use Rattle.table_lines.proofs.put_entries.Statement.{statement}
@@ -20,47 +23,47 @@ Inv-loop out₀ at file section listed rest₀ index₀ next₀ out rest index n
 abbrev μ-loop : tie.MeasureT-loop
 μ-loop out₀ at file section listed rest₀ index₀ next₀ out rest index next = rest .count
 
+returns : tie.Need-returns Inv-loop μ-loop
+returns c = puts-none _ _ _ (omega arith) refl
+
 loop-holds : tie.Need-loop-holds Inv-loop μ-loop
 loop-holds c = (left-start (omega arith) refl, omega arith)
 
-put-next-requires : tie.Need-put-next-requires Inv-loop μ-loop
-put-next-requires c κs = let b = c .before .before .before .loop .inv .0 .wrote .within in omega arith
-
 same-length : tie.Need-same-length Inv-loop μ-loop
-same-length c = c .before .before .before .before .put-next .kept .0 ∙ c .before .before .before .before .before .before .before .before .loop .inv .0 .room
-
-returns : tie.Need-returns Inv-loop μ-loop
-returns c =
-    let a = c .before .before .before .before .before .before .before .before .before .before .before .args in
-    left-full (c .before .before .before .before .before .before .before .before .loop .inv .0) (roomOf (a .listed) (now (a .file))) (subst (PutsNext _ _ _ _ _) (c .enum-told .given .1) (c .before .before .before .before .put-next .ensures))
-
-same-length-2 : tie.Need-same-length-2 Inv-loop μ-loop
-same-length-2 c = c .before .before .before .before .put-next .kept .0 ∙ c .before .before .before .before .before .before .before .before .loop .inv .0 .room
+same-length c = c .before .before .before .before .put-next .kept .0 ∙ wrote-length (c .before .before .before .before .before .before .before .before .loop .inv .0 .wrote)
 
 returns-2 : tie.Need-returns-2 Inv-loop μ-loop
 returns-2 c =
-    let n = subst (PutsNext _ _ _ _ _) (c .enum-told2 .given .1) (c .before .before .before .before .put-next .ensures) in
+    let n = next-full _ _ _ _ (subst (PutsNext _ _ _ _) (c .enum-told .given .1) (c .before .before .before .before .put-next .ensures)) in
+    left-full (c .before .before .before .before .before .before .before .before .loop .inv .0) (omega arith) (n .answers) (line-left (n .short) (n .left))
+
+same-length-2 : tie.Need-same-length-2 Inv-loop μ-loop
+same-length-2 c = c .before .before .before .before .put-next .kept .0 ∙ wrote-length (c .before .before .before .before .before .before .before .before .loop .inv .0 .wrote)
+
+returns-3 : tie.Need-returns-3 Inv-loop μ-loop
+returns-3 c =
+    let n = next-end _ _ _ _ (subst (PutsNext _ _ _ _) (c .enum-told2 .given .1) (c .before .before .before .before .put-next .ensures)) in
     rw (n .1) (left-none (c .before .before .before .before .before .before .before .before .loop .inv .0) (n .0))
 
 loop-less : tie.Need-loop-less Inv-loop μ-loop
 loop-less c =
-    let a = c .before .before .before .before .before .before .before .before .before .before .before .before .args in
-    let n = subst (PutsNext _ _ _ _ _) (c .before .n .given .1) (c .before .before .before .before .before .put-next .ensures) in
+    let a = c .before .before .before .before .before .before .before .before .before .before .before .before .before .args in
+    let n = next-put _ _ _ _ _ _ (subst (PutsNext _ _ _ _) (c .before .n .given .1) (c .before .before .before .before .before .put-next .ensures)) in
     omega (arith, falls (now (a .file)) (placeIn (a .section)) (a .listed) _ _ _ _ (n .answers))
 
 loop-again : tie.Need-loop-again Inv-loop μ-loop
 loop-again c =
-    let a = c .before .before .before .before .before .before .before .before .before .before .before .before .args in
+    let a = c .before .before .before .before .before .before .before .before .before .before .before .before .before .args in
     let l = c .before .before .before .before .before .before .before .before .before .loop .inv in
-    let n = subst (PutsNext _ _ _ _ _) (c .before .n .given .1) (c .before .before .before .before .before .put-next .ensures) in
+    let n = next-put _ _ _ _ _ _ (subst (PutsNext _ _ _ _) (c .before .n .given .1) (c .before .before .before .before .before .put-next .ensures)) in
     let fall = falls (now (a .file)) (placeIn (a .section)) (a .listed) in
-    (left-more (l .0) (omega arith) (n .answers) fall (c .before .before .before .before .before .put-next .kept .0) (n .wrote), omega (arith, fall _ _ _ _ (n .answers)))
+    (left-more (l .0) (omega arith) (n .answers) fall (n .wrote), omega (arith, fall _ _ _ _ (n .answers)))
 
 same-length-3 : tie.Need-same-length-3 Inv-loop μ-loop
-same-length-3 c = c .before .before .loop .inv .0 .room
+same-length-3 c = wrote-length (c .before .before .loop .inv .0 .wrote)
 
-returns-3 : tie.Need-returns-3 Inv-loop μ-loop
-returns-3 c = left-end (c .before .before .loop .inv .0) (omega arith)
+returns-4 : tie.Need-returns-4 Inv-loop μ-loop
+returns-4 c = left-end (c .before .before .loop .inv .0) (omega arith)
 
 pub put-entries-spec : {M : Type 1} → statement M
 put-entries-spec =
@@ -68,17 +71,18 @@ put-entries-spec =
     (tie.spec
     Inv-loop
     μ-loop
+    returns
     loop-holds
-    put-next-requires
+    (λ c κs. search needs)
     (λ c. search needs)
     same-length
-    returns
+    returns-2
     (λ c. search needs)
     same-length-2
-    returns-2
+    returns-3
     (λ c. search needs)
     (λ c. search needs)
     loop-less
     loop-again
     same-length-3
-    returns-3)
+    returns-4)

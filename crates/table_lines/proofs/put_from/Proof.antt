@@ -1,15 +1,14 @@
 -- `table_lines::put_from` meets its contract: no text, or that of the entries.
-use native.Mathlib.Omega.{arith}
-use Rattle.text.proofs.Putting.{wrote-none}
+use Rattle.text.proofs.Fitting.{line-puts}
 use borrow.Author.Needs.{needs}
 use Rattle.table_lines.proofs.put_from.Statement.{statement}
 use Rattle.table_lines.proofs.put_from.Tie as tie
 
-returns-2 : tie.Need-returns-2
-returns-2 c = rw (c .enum-told .given .1) (wrote-none _ _ (omega arith))
+returns : tie.Need-returns
+returns c = rw (c .before .before .before .before .before .enum-told .given .1) (line-puts (c .before .before .put-text .ensures))
 
-returns-3 : tie.Need-returns-3
-returns-3 c = rw (c .before .before .before .before .before .start .given .1) (c .before .before .put-entries .ensures)
+returns-2 : tie.Need-returns-2
+returns-2 c = rw (c .before .before .before .before .before .start .given .1) (c .before .before .put-entries .ensures)
 
 pub put-from-spec : {M : Type 1} → statement M
 put-from-spec =
@@ -17,8 +16,10 @@ put-from-spec =
     (tie.spec
     (λ c. search needs)
     (λ c. search needs)
+    (λ c κs. search needs)
     (λ c. search needs)
     (λ c κs. search needs)
-    returns-2
     (λ c. search needs)
-    returns-3)
+    returns
+    (λ c. search needs)
+    returns-2)

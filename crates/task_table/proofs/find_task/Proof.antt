@@ -2,11 +2,14 @@
 use mathlib.Core.Path.{ap}
 use native.Mathlib.Omega.{arith}
 use denote.Ref.{now}
+use Rattle.reading.proofs.Given.{reads-at}
+use Rattle.reading.proofs.Left.{stays-local}
 use Rattle.format.specs.Tasks.{task}
 use Rattle.format.specs.Lookups.{taskOf}
 use Rattle.base.specs.Error.{faultOf}
 use Rattle.task_table.specs.Answers.{taskStep, taskCountsIn}
 use Rattle.task_table.proofs.Tables.{counts-refused, task-out, task-fits, task-found}
+use Rattle.task_table.proofs.Entries.{task-local}
 use borrow.Author.Needs.{needs}
 use Rattle.task_table.proofs.find_task.Statement.{statement}
 use Rattle.task_table.proofs.find_task.Tie as tie
@@ -33,13 +36,13 @@ returns-3 : tie.Need-returns-3
 returns-3 c =
     let a = c .before .before .before .before .before .before .before .before .before .before .before .args in
     let v = c .before .before .before .before .before .before .before .counts .given in
-    task-found (now (a .s)) (taskCountsIn (v .0 .0)) (rw (v .1) at (c .before .before .before .before .before .before .before .before .before .read-from .ensures)) (a .index) (c .before .before .before .before .if1 .left) (ap taskStep (c .before .e2 .given .1)) (c .before .before .before .read-task .ensures)
+    task-found (now (a .s)) (taskCountsIn (v .0 .0)) (rw (v .1) at (c .before .before .before .before .before .before .before .before .before .read-from .ensures)) (a .index) (c .before .before .before .before .if1 .left) (ap taskStep (c .before .e2 .given .1)) (reads-at (stays-local _ task-local) _ (c .before .before .before .read-task .ensures))
 
 returns-4 : tie.Need-returns-4
 returns-4 c =
     let a = c .before .before .before .before .before .before .before .before .before .before .before .args in
     let v = c .before .before .before .before .before .before .before .counts .given in
-    task-found (now (a .s)) (taskCountsIn (v .0 .0)) (rw (v .1) at (c .before .before .before .before .before .before .before .before .before .read-from .ensures)) (a .index) (c .before .before .before .before .if1 .left) (ap taskStep (c .before .t .given .1)) (c .before .before .before .read-task .ensures)
+    task-found (now (a .s)) (taskCountsIn (v .0 .0)) (rw (v .1) at (c .before .before .before .before .before .before .before .before .before .read-from .ensures)) (a .index) (c .before .before .before .before .if1 .left) (ap taskStep (c .before .t .given .1)) (reads-at (stays-local _ task-local) _ (c .before .before .before .read-task .ensures))
 
 pub find-task-spec : {M : Type 1} → statement M
 find-task-spec =

@@ -3,9 +3,11 @@ use mathlib.Core.Path.{ap}
 use native.Mathlib.Omega.{arith}
 use denote.Ref.{now}
 use Rattle.reading.proofs.Width.{needs-at}
+use Rattle.reading.proofs.Given.{reads-at}
+use Rattle.reading.proofs.Left.{stays-local}
 use Rattle.format.specs.Tasks.{task}
 use Rattle.task_table.specs.Answers.{taskStep}
-use Rattle.task_table.proofs.Entries.{task-needs}
+use Rattle.task_table.proofs.Entries.{task-needs, task-local}
 use Rattle.base.proofs.FileLookups.{step-ends, step-stops, step-read}
 use borrow.Author.Needs.{needs}
 use Rattle.task_table.proofs.step_task.Statement.{statement}
@@ -20,10 +22,10 @@ returns-2 c =
     step-stops task (now (a .s)) (a .t) (λ z. omega arith) (needs-at task-needs (now (a .s)) (a .t .at) (omega arith))
 
 returns-3 : tie.Need-returns-3
-returns-3 c = step-read _ _ _ (λ z. omega arith) (ap taskStep (c .before .e .given .1)) (c .before .before .before .read-task .ensures)
+returns-3 c = step-read _ _ _ (λ z. omega arith) (ap taskStep (c .before .e .given .1)) (reads-at (stays-local _ task-local) _ (c .before .before .before .read-task .ensures))
 
 returns-4 : tie.Need-returns-4
-returns-4 c = step-read _ _ _ (λ z. omega arith) (ap taskStep (c .before .before .x .given .1)) (c .before .before .before .before .read-task .ensures)
+returns-4 c = step-read _ _ _ (λ z. omega arith) (ap taskStep (c .before .before .x .given .1)) (reads-at (stays-local _ task-local) _ (c .before .before .before .before .read-task .ensures))
 
 pub step-task-spec : {M : Type 1} → statement M
 step-task-spec =

@@ -2,12 +2,18 @@
 use native.Mathlib.Omega.{arith}
 use borrow.Author.Needs.{needs}
 use denote.Ref.{now}
-use Rattle.text.proofs.Putting.{wrote-then, numbers-short}
+use Rattle.text.proofs.Putting.{wrote-then, ended-length}
 use Rattle.text.proofs.put_ended.Statement.{statement}
 use Rattle.text.proofs.put_ended.Tie as tie
 
+put-bytes-requires : tie.Need-put-bytes-requires
+put-bytes-requires c κs = let a = c .before .before .before .before .before .args in omega (arith, ended-length (now (a .word)) (now (a .ns)) (now (a .end)))
+
+put-numbers-requires : tie.Need-put-numbers-requires
+put-numbers-requires c κs = let a = c .before .before .before .before .before .before .before .before .before .args in omega (arith, ended-length (now (a .word)) (now (a .ns)) (now (a .end)))
+
 put-bytes-requires-2 : tie.Need-put-bytes-requires-2
-put-bytes-requires-2 c κs = omega (arith, numbers-short (now (c .before .before .before .before .before .before .before .before .before .before .before .before .before .args .ns)))
+put-bytes-requires-2 c κs = let a = c .before .before .before .before .before .before .before .before .before .before .before .before .before .args in omega (arith, ended-length (now (a .word)) (now (a .ns)) (now (a .end)))
 
 returns : tie.Need-returns
 returns c =
@@ -16,4 +22,4 @@ returns c =
     (c .before .before .put-bytes2 .ensures)
 
 pub put-ended-spec : {M : Type 1} → statement M
-put-ended-spec = tie.close (tie.spec (λ c κs. search needs) (λ c κs. search needs) put-bytes-requires-2 (λ c. search needs) returns)
+put-ended-spec = tie.close (tie.spec put-bytes-requires put-numbers-requires put-bytes-requires-2 (λ c. search needs) returns)

@@ -25,7 +25,7 @@ put-hex-byte-requires : tie.Need-put-hex-byte-requires Inv-loop μ-loop
 put-hex-byte-requires c κs =
     let l = c .before .before .before .loop in
     let bytes = now (c .before .before .before .before .before .before .args .bytes) in
-    omega (arith, length-take-le (l .i) bytes (l .inv .most), hexes-length (take (l .i) bytes))
+    omega (arith, length-take-le (l .i) bytes (l .inv .most), hexes-length (take (l .i) bytes), hexes-length bytes)
 
 loop-again : tie.Need-loop-again Inv-loop μ-loop
 unfolding hexes

@@ -5,9 +5,8 @@ use native.Mathlib.Omega.{arith}
 use borrow.Author.Needs.{needs}
 use denote.Ref.{now}
 use lib.ListN.{length, take}
-use lib.Seq.{length-take-le}
 use Rattle.text.specs.Text.{numbers}
-use Rattle.text.proofs.Putting.{Put, put-start, put-next, put-end, numbers-snoc, numbers-short}
+use Rattle.text.proofs.Putting.{Put, put-start, put-next, put-end, numbers-snoc, numbers-part}
 use Rattle.text.proofs.put_numbers.Statement.{statement}
 use Rattle.text.proofs.put_numbers.Tie as tie
 
@@ -25,7 +24,7 @@ put-number-requires : tie.Need-put-number-requires Inv-loop μ-loop
 put-number-requires c κs =
     let l = c .before .before .before .loop in
     let ns = now (c .before .before .before .before .before .before .args .ns) in
-    omega (arith, length-take-le (l .i) ns (l .inv .most), numbers-short (take (l .i) ns))
+    omega (arith, numbers-part ns (l .i) (omega arith))
 
 loop-again : tie.Need-loop-again Inv-loop μ-loop
 unfolding numbers

@@ -2,6 +2,7 @@
 use native.Mathlib.Omega.{arith}
 use denote.Ref.{now}
 use Rattle.reading.proofs.Width.{needs-at}
+use Rattle.reading.proofs.Given.{step-at}
 use Rattle.base.specs.Error.{faultOf}
 use Rattle.type_entries.proofs.Entries.{array-needs, array-stop, array-whole}
 use borrow.Author.Needs.{needs}
@@ -9,21 +10,21 @@ use Rattle.type_entries.proofs.read_array.Statement.{statement}
 use Rattle.type_entries.proofs.read_array.Tie as tie
 
 returns : tie.Need-returns
-returns c = let a = c .before .before .args in needs-at array-needs (now (a .s)) (a .at) (omega arith)
+returns c = let a = c .before .before .args in step-at _ _ _ _ (needs-at array-needs (now (a .s)) (a .at) (omega arith))
 
 returns-2 : tie.Need-returns-2
-returns-2 c = let a = c .before .before .before .args in needs-at array-needs (now (a .s)) (a .at) (c .if2 .taken)
+returns-2 c = let a = c .before .before .before .args in step-at _ _ _ _ (needs-at array-needs (now (a .s)) (a .at) (c .if2 .taken))
 
 returns-3 : tie.Need-returns-3
 returns-3 c =
     let a = c .before .before .before .before .before .before .before .before .before .before .before .args in
     let v = c .before .e .given in
-    array-stop (now (a .s)) (a .at) _ (omega arith) (c .before .before .before .before .before .before .before .u8-at .ensures) (c .before .before .before .before .before .before .u32-at .ensures) (c .before .before .before .before .before .u16-at .ensures) (c .before .before .before .before .u32-at2 .ensures) (faultOf (v .0 .0)) (rw (v .1) at (c .before .before .before .validate .ensures))
+    step-at _ _ _ _ (array-stop (now (a .s)) (a .at) _ (omega arith) (c .before .before .before .before .before .before .before .u8-at .ensures) (c .before .before .before .before .before .before .u32-at .ensures) (c .before .before .before .before .before .u16-at .ensures) (c .before .before .before .before .u32-at2 .ensures) (faultOf (v .0 .0)) (rw (v .1) at (c .before .before .before .validate .ensures)))
 
 returns-4 : tie.Need-returns-4
 returns-4 c =
     let a = c .before .before .before .before .before .before .before .before .before .before .args in
-    (omega arith, array-whole (now (a .s)) (a .at) _ (omega arith) (c .before .before .before .before .before .before .u8-at .ensures) (c .before .before .before .before .before .u32-at .ensures) (c .before .before .before .before .u16-at .ensures) (c .before .before .before .u32-at2 .ensures) (rw (c .enum-told .given .1) at (c .before .before .validate .ensures)))
+    step-at _ _ _ _ (omega arith, array-whole (now (a .s)) (a .at) _ (omega arith) (c .before .before .before .before .before .before .u8-at .ensures) (c .before .before .before .before .before .u32-at .ensures) (c .before .before .before .before .u16-at .ensures) (c .before .before .before .u32-at2 .ensures) (rw (c .enum-told .given .1) at (c .before .before .validate .ensures)))
 
 pub read-array-spec : {M : Type 1} → statement M
 read-array-spec =

@@ -4,9 +4,12 @@ use Prim.Native.Nat.{_-_}
 use native.Mathlib.Omega.{arith}
 use Rattle.reading.proofs.Passing.{Passed, passed-none, passed-all}
 use Rattle.reading.proofs.Made.{made-stop, made-more}
+use Rattle.reading.proofs.Given.{way-at, reads-at}
+use Rattle.reading.proofs.Left.{stays-local}
 use Rattle.format.specs.Types.{fbType}
 use Rattle.format.specs.Lookups.{fbTypeHeadOf}
 use Rattle.type_entries.specs.Answers.{fbTypeStep}
+use Rattle.type_entries.proofs.Entries.{local-head}
 use borrow.Author.Needs.{needs}
 use Rattle.type_entries.proofs.skip_fb_types.Statement.{statement}
 use Rattle.type_entries.proofs.skip_fb_types.Tie as tie
@@ -21,13 +24,13 @@ loop-holds : tie.Need-loop-holds Inv-loop μ-loop
 loop-holds c = passed-none _ _ _ _ (omega arith)
 
 returns : tie.Need-returns Inv-loop μ-loop
-returns c = made-stop fbTypeHeadOf fbType _ _ _ _ _ _ (c .before .before .before .before .loop-test .taken) (c .before .before .before .before .before .loop .inv) (ap fbTypeStep (c .before .e .given .1)) (c .before .before .before .read-fb-type .ensures)
+returns c = way-at _ _ _ _ (made-stop fbTypeHeadOf fbType _ _ _ _ _ _ (c .before .before .before .before .loop-test .taken) (c .before .before .before .before .before .loop .inv) (ap fbTypeStep (c .before .e .given .1)) (reads-at (stays-local _ local-head) _ (c .before .before .before .read-fb-type .ensures)))
 
 loop-again : tie.Need-loop-again Inv-loop μ-loop
-loop-again c = made-more fbTypeHeadOf fbType _ _ _ _ _ _ _ (c .before .before .before .before .loop-test .taken) (c .before .before .before .before .before .loop .inv) (ap fbTypeStep (c .before .m .given .1)) (c .before .before .before .read-fb-type .ensures)
+loop-again c = made-more fbTypeHeadOf fbType _ _ _ _ _ _ _ (c .before .before .before .before .loop-test .taken) (c .before .before .before .before .before .loop .inv) (ap fbTypeStep (c .before .m .given .1)) (reads-at (stays-local _ local-head) _ (c .before .before .before .read-fb-type .ensures))
 
 returns-2 : tie.Need-returns-2 Inv-loop μ-loop
-returns-2 c = passed-all _ _ _ _ _ _ (c .loop-test .left) (c .before .loop .inv)
+returns-2 c = way-at _ _ _ _ (passed-all _ _ _ _ _ _ (c .loop-test .left) (c .before .loop .inv))
 
 pub skip-fb-types-spec : {M : Type 1} → statement M
 skip-fb-types-spec =

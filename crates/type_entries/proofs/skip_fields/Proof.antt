@@ -3,8 +3,11 @@ use mathlib.Core.Path.{ap}
 use Prim.Native.Nat.{_-_}
 use native.Mathlib.Omega.{arith}
 use Rattle.reading.proofs.Passing.{Passed, passed-none, passed-all, walk-stop, walk-more}
+use Rattle.reading.proofs.Given.{way-at, reads-at}
+use Rattle.reading.proofs.Left.{stays-local}
 use Rattle.format.specs.Types.{field}
 use Rattle.type_entries.specs.Answers.{fieldStep}
+use Rattle.type_entries.proofs.Entries.{local-field}
 use borrow.Author.Needs.{needs}
 use Rattle.type_entries.proofs.skip_fields.Statement.{statement}
 use Rattle.type_entries.proofs.skip_fields.Tie as tie
@@ -19,13 +22,13 @@ loop-holds : tie.Need-loop-holds Inv-loop μ-loop
 loop-holds c = passed-none _ _ _ _ (omega arith)
 
 returns : tie.Need-returns Inv-loop μ-loop
-returns c = walk-stop field _ _ _ _ _ _ (c .before .before .before .before .loop-test .taken) (c .before .before .before .before .before .loop .inv) (ap fieldStep (c .before .e .given .1)) (c .before .before .before .read-field .ensures)
+returns c = way-at _ _ _ _ (walk-stop field _ _ _ _ _ _ (c .before .before .before .before .loop-test .taken) (c .before .before .before .before .before .loop .inv) (ap fieldStep (c .before .e .given .1)) (reads-at (stays-local _ local-field) _ (c .before .before .before .read-field .ensures)))
 
 loop-again : tie.Need-loop-again Inv-loop μ-loop
-loop-again c = walk-more field _ _ _ _ _ _ _ (c .before .before .before .before .loop-test .taken) (c .before .before .before .before .before .loop .inv) (ap fieldStep (c .before .m .given .1)) (c .before .before .before .read-field .ensures)
+loop-again c = walk-more field _ _ _ _ _ _ _ (c .before .before .before .before .loop-test .taken) (c .before .before .before .before .before .loop .inv) (ap fieldStep (c .before .m .given .1)) (reads-at (stays-local _ local-field) _ (c .before .before .before .read-field .ensures))
 
 returns-2 : tie.Need-returns-2 Inv-loop μ-loop
-returns-2 c = passed-all _ _ _ _ _ _ (c .loop-test .left) (c .before .loop .inv)
+returns-2 c = way-at _ _ _ _ (passed-all _ _ _ _ _ _ (c .loop-test .left) (c .before .loop .inv))
 
 pub skip-fields-spec : {M : Type 1} → statement M
 skip-fields-spec =

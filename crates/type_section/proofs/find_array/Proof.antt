@@ -5,6 +5,8 @@ use native.Mathlib.Omega.{arith}
 use lib.ListN.{length}
 use denote.Ref.{now}
 use Rattle.reading.specs.Answer.{itemOf}
+use Rattle.reading.proofs.Given.{reads-at}
+use Rattle.reading.proofs.Left.{stays-local}
 use Rattle.format.specs.Types.{typeTables}
 use Rattle.format.specs.Lookups.{arrayOf}
 use Rattle.base.specs.Error.{faultOf}
@@ -12,6 +14,7 @@ use Rattle.type_entries.specs.Starts.{typeStartsOf}
 use Rattle.type_entries.specs.Answers.{arrayStep}
 use Rattle.format.proofs.Answers.{refused-then}
 use Rattle.type_section.proofs.Finding.{array-fits, array-out, array-found}
+use Rattle.type_entries.proofs.Entries.{local-array}
 use borrow.Author.Needs.{needs}
 use Rattle.type_section.proofs.find_array.Statement.{statement}
 use Rattle.type_section.proofs.find_array.Tie as tie
@@ -45,13 +48,13 @@ returns-3 : tie.Need-returns-3
 returns-3 c =
     let a = c .before .before .before .before .before .before .before .before .before .before .args in
     let v = c .before .before .before .before .before .before .t .given in
-    array-found (now (a .s)) (v .0 .0) (rw (v .1) at (c .before .before .before .before .before .before .before .before .tables-of .ensures)) (a .index) (c .before .before .before .before .if1 .left) (ap arrayStep (c .before .e2 .given .1)) (c .before .before .before .read-array .ensures)
+    array-found (now (a .s)) (v .0 .0) (rw (v .1) at (c .before .before .before .before .before .before .before .before .tables-of .ensures)) (a .index) (c .before .before .before .before .if1 .left) (ap arrayStep (c .before .e2 .given .1)) (reads-at (stays-local _ local-array) _ (c .before .before .before .read-array .ensures))
 
 returns-4 : tie.Need-returns-4
 returns-4 c =
     let a = c .before .before .before .before .before .before .before .before .before .before .args in
     let v = c .before .before .before .before .before .before .t .given in
-    array-found (now (a .s)) (v .0 .0) (rw (v .1) at (c .before .before .before .before .before .before .before .before .tables-of .ensures)) (a .index) (c .before .before .before .before .if1 .left) (ap arrayStep (c .before .x .given .1)) (c .before .before .before .read-array .ensures)
+    array-found (now (a .s)) (v .0 .0) (rw (v .1) at (c .before .before .before .before .before .before .before .before .tables-of .ensures)) (a .index) (c .before .before .before .before .if1 .left) (ap arrayStep (c .before .x .given .1)) (reads-at (stays-local _ local-array) _ (c .before .before .before .read-array .ensures))
 
 pub find-array-spec : {M : Type 1} → statement M
 find-array-spec =

@@ -5,10 +5,12 @@ use native.Mathlib.Omega.{arith}
 use lib.ListN.{length}
 use denote.Ref.{now}
 use Rattle.reading.proofs.Tables.{holds-found, holds-fits, holds-out}
+use Rattle.reading.proofs.Given.{reads-at}
+use Rattle.reading.proofs.Left.{stays-local}
 use Rattle.format.specs.Faults.{noEntry}
 use Rattle.format.specs.Types.{field}
 use Rattle.type_entries.specs.Answers.{fieldStep}
-use Rattle.type_entries.proofs.Entries.{field-width}
+use Rattle.type_entries.proofs.Entries.{field-width, local-field}
 use Rattle.type_section.specs.Answers.{fbTypePlacedFrom}
 use Rattle.type_section.proofs.Finding.{fields-of, fields-refused}
 use borrow.Author.Needs.{needs}
@@ -41,13 +43,13 @@ returns-3 : tie.Need-returns-3
 returns-3 c =
     let a = c .before .before .before .before .before .before .before .before .before .before .before .args in
     let q = fields-of (now (a .s)) (a .index) _ (ap fbTypePlacedFrom (c .before .before .before .before .before .before .before .d .given .1)) (c .before .before .before .before .before .before .before .before .before .find-fb-type .ensures) in
-    holds-found field (now (a .s)) _ (q .fields) (q .holds) field-width (a .field) (c .before .before .before .before .if1 .left) noEntry (ap fieldStep (c .before .e2 .given .1)) (c .before .before .before .read-field .ensures) ∙ q .is (a .field)
+    holds-found field (now (a .s)) _ (q .fields) (q .holds) field-width (a .field) (c .before .before .before .before .if1 .left) noEntry (ap fieldStep (c .before .e2 .given .1)) (reads-at (stays-local _ local-field) _ (c .before .before .before .read-field .ensures)) ∙ q .is (a .field)
 
 returns-4 : tie.Need-returns-4
 returns-4 c =
     let a = c .before .before .before .before .before .before .before .before .before .before .before .args in
     let q = fields-of (now (a .s)) (a .index) _ (ap fbTypePlacedFrom (c .before .before .before .before .before .before .before .d .given .1)) (c .before .before .before .before .before .before .before .before .before .find-fb-type .ensures) in
-    holds-found field (now (a .s)) _ (q .fields) (q .holds) field-width (a .field) (c .before .before .before .before .if1 .left) noEntry (ap fieldStep (c .before .x .given .1)) (c .before .before .before .read-field .ensures) ∙ q .is (a .field)
+    holds-found field (now (a .s)) _ (q .fields) (q .holds) field-width (a .field) (c .before .before .before .before .if1 .left) noEntry (ap fieldStep (c .before .x .given .1)) (reads-at (stays-local _ local-field) _ (c .before .before .before .read-field .ensures)) ∙ q .is (a .field)
 
 pub find-field-spec : {M : Type 1} → statement M
 find-field-spec =

@@ -5,6 +5,8 @@ use native.Mathlib.Omega.{arith}
 use lib.ListN.{length}
 use denote.Ref.{now}
 use Rattle.reading.specs.Answer.{itemOf}
+use Rattle.reading.proofs.Given.{reads-at}
+use Rattle.reading.proofs.Left.{stays-local}
 use Rattle.format.specs.Types.{typeTables}
 use Rattle.format.specs.Lookups.{userFbOf}
 use Rattle.base.specs.Error.{faultOf}
@@ -12,6 +14,7 @@ use Rattle.type_entries.specs.Starts.{typeStartsOf}
 use Rattle.type_entries.specs.Answers.{userFbStep}
 use Rattle.format.proofs.Answers.{refused-then}
 use Rattle.type_section.proofs.Finding.{user-fb-fits, user-fb-out, user-fb-found}
+use Rattle.type_entries.proofs.Entries.{local-user-fb}
 use borrow.Author.Needs.{needs}
 use Rattle.type_section.proofs.find_user_fb.Statement.{statement}
 use Rattle.type_section.proofs.find_user_fb.Tie as tie
@@ -45,13 +48,13 @@ returns-3 : tie.Need-returns-3
 returns-3 c =
     let a = c .before .before .before .before .before .before .before .before .before .before .args in
     let v = c .before .before .before .before .before .before .t .given in
-    user-fb-found (now (a .s)) (v .0 .0) (rw (v .1) at (c .before .before .before .before .before .before .before .before .tables-of .ensures)) (a .index) (c .before .before .before .before .if1 .left) (ap userFbStep (c .before .e2 .given .1)) (c .before .before .before .read-user-fb .ensures)
+    user-fb-found (now (a .s)) (v .0 .0) (rw (v .1) at (c .before .before .before .before .before .before .before .before .tables-of .ensures)) (a .index) (c .before .before .before .before .if1 .left) (ap userFbStep (c .before .e2 .given .1)) (reads-at (stays-local _ local-user-fb) _ (c .before .before .before .read-user-fb .ensures))
 
 returns-4 : tie.Need-returns-4
 returns-4 c =
     let a = c .before .before .before .before .before .before .before .before .before .before .args in
     let v = c .before .before .before .before .before .before .t .given in
-    user-fb-found (now (a .s)) (v .0 .0) (rw (v .1) at (c .before .before .before .before .before .before .before .before .tables-of .ensures)) (a .index) (c .before .before .before .before .if1 .left) (ap userFbStep (c .before .x .given .1)) (c .before .before .before .read-user-fb .ensures)
+    user-fb-found (now (a .s)) (v .0 .0) (rw (v .1) at (c .before .before .before .before .before .before .before .before .tables-of .ensures)) (a .index) (c .before .before .before .before .if1 .left) (ap userFbStep (c .before .x .given .1)) (reads-at (stays-local _ local-user-fb) _ (c .before .before .before .read-user-fb .ensures))
 
 pub find-user-fb-spec : {M : Type 1} → statement M
 find-user-fb-spec =

@@ -1,4 +1,4 @@
--- `vectors::edges` is safe: the input has as many bytes as the hash is asked for.
+-- `vectors::edges` is safe: the input has all the bytes that are asked for.
 use native.Mathlib.Omega.{arith}
 use lib.ListN.{length-take}
 use borrow.Author.Needs.{needs}
@@ -8,11 +8,22 @@ use Rattle.vectors.proofs.edges.Tie as tie
 slice-aggregate-show : tie.Need-slice-aggregate-show
 slice-aggregate-show c = simp length-take (omega arith)
 
+slice-aggregate-show-2 : tie.Need-slice-aggregate-show-2
+slice-aggregate-show-2 c = simp length-take (omega arith)
+
+slice-aggregate-show-3 : tie.Need-slice-aggregate-show-3
+slice-aggregate-show-3 c = simp length-take (omega arith)
+
 pub edges-spec : {M : Type 1} → statement M
 edges-spec =
     tie.close
     (tie.spec
     slice-aggregate-show
+    (λ c κs. search needs)
+    (λ c. search needs)
+    slice-aggregate-show-2
+    (λ c κs. search needs)
+    slice-aggregate-show-3
     (λ c κs. search needs)
     (λ c κs. search needs)
     (λ c. search needs))

@@ -14,6 +14,7 @@ in-two-spec =
     (tie.spec
     (λ c κs. search needs)
     slice-aggregate-fed-with
+    (λ c κs. search needs)
     (λ c. search needs)
     (λ c. search needs)
     (λ c. search needs)

@@ -9,4 +9,13 @@ slice-aggregate-word : tie.Need-slice-aggregate-word
 slice-aggregate-word c = simp length-take (omega arith)
 
 pub start-spec : {M : Type 1} → statement M
-start-spec = tie.close (tie.spec slice-aggregate-word (λ c κs. search needs) (λ c. search needs))
+start-spec =
+    tie.close
+    (tie.spec
+    (λ c. search needs)
+    (λ c. search needs)
+    slice-aggregate-word
+    (λ c κs. search needs)
+    (λ c. search needs)
+    (λ c. search needs)
+    (λ c. search needs))

@@ -7,7 +7,9 @@ use Rattle.reading.proofs.Passing.{Passed, passed-none, passed-all}
 use Rattle.format.specs.Debug.{enumeration}
 use Rattle.debug_text.specs.Answers.{keepIn}
 use Rattle.reading.proofs.Made.{made-stop, made-more}
+use Rattle.reading.proofs.Given.{way-at, reads-at}
 use Rattle.debug_entries.specs.Answers.{entryOf, enumDefStep}
+use Rattle.debug_entries.proofs.Entries.{stays-entry}
 use borrow.Author.Needs.{needs}
 use Rattle.debug_entries.proofs.enum_defs.skip_enum_defs.Statement.{statement}
 use Rattle.debug_entries.proofs.enum_defs.skip_enum_defs.Tie as tie
@@ -24,15 +26,15 @@ loop-holds c = passed-none _ _ _ _ (omega arith)
 returns : tie.Need-returns Inv-loop μ-loop
 returns c =
     let a = c .before .before .before .before .before .before .before .args in
-    made-stop (entryOf (a .base)) (enumeration (keepIn (a .base) (now (a .s)))) (now (a .s)) _ _ _ _ _ (c .before .before .before .before .loop-test .taken) (c .before .before .before .before .before .loop .inv) (ap enumDefStep (c .before .e .given .1)) (c .before .before .before .read-enum-def .ensures)
+    way-at _ _ _ _ (made-stop (entryOf (a .base)) (enumeration (keepIn (a .base) (now (a .s)))) (now (a .s)) _ _ _ _ _ (c .before .before .before .before .loop-test .taken) (c .before .before .before .before .before .loop .inv) (ap enumDefStep (c .before .e .given .1)) (reads-at (stays-entry _ _ _) _ (c .before .before .before .read-enum-def .ensures)))
 
 loop-again : tie.Need-loop-again Inv-loop μ-loop
 loop-again c =
     let a = c .before .before .before .before .before .before .before .args in
-    made-more (entryOf (a .base)) (enumeration (keepIn (a .base) (now (a .s)))) (now (a .s)) _ _ _ _ _ _ (c .before .before .before .before .loop-test .taken) (c .before .before .before .before .before .loop .inv) (ap enumDefStep (c .before .m .given .1)) (c .before .before .before .read-enum-def .ensures)
+    made-more (entryOf (a .base)) (enumeration (keepIn (a .base) (now (a .s)))) (now (a .s)) _ _ _ _ _ _ (c .before .before .before .before .loop-test .taken) (c .before .before .before .before .before .loop .inv) (ap enumDefStep (c .before .m .given .1)) (reads-at (stays-entry _ _ _) _ (c .before .before .before .read-enum-def .ensures))
 
 returns-2 : tie.Need-returns-2 Inv-loop μ-loop
-returns-2 c = passed-all _ _ _ _ _ _ (c .loop-test .left) (c .before .loop .inv)
+returns-2 c = way-at _ _ _ _ (passed-all _ _ _ _ _ _ (c .loop-test .left) (c .before .loop .inv))
 
 pub skip-enum-defs-spec : {M : Type 1} → statement M
 skip-enum-defs-spec =

@@ -2,10 +2,12 @@
 use mathlib.Core.Path.{ap}
 use native.Mathlib.Omega.{arith}
 use Rattle.reading.proofs.Passing.{goes-told}
+use Rattle.reading.proofs.Given.{reads-at, goes-at}
+use Rattle.reading.proofs.Left.{stays-many}
 use Rattle.debug_text.specs.Answers.{wayOf}
 use Rattle.debug_text.proofs.Walks.{picked-out, picked-past, picked-stop, picked-read}
 use Rattle.debug_entries.specs.Answers.{varNameStep}
-use Rattle.debug_entries.proofs.Entries.{var-needs}
+use Rattle.debug_entries.proofs.Entries.{var-needs, stays-variable}
 use borrow.Author.Needs.{needs}
 use Rattle.debug_entries.proofs.var_names.find_var_name.Statement.{statement}
 use Rattle.debug_entries.proofs.var_names.find_var_name.Tie as tie
@@ -17,16 +19,16 @@ returns-2 : tie.Need-returns-2
 returns-2 c = picked-past _ _ _ _ _ _ (var-needs _) (omega arith) (c .before .if1 .left) (c .if2 .taken)
 
 read-var-name-requires : tie.Need-read-var-name-requires
-read-var-name-requires c κs = (goes-told _ _ _ (ap wayOf (c .before .p .given .1)) (c .before .before .before .skip-var-names .ensures) .0, omega arith)
+read-var-name-requires c κs = (goes-told _ _ _ (ap wayOf (c .before .p .given .1)) (goes-at (stays-many _ (c .before .before .before .before .before .before .before .args .k) (stays-variable _ _)) _ (c .before .before .before .skip-var-names .ensures)) .0, omega arith)
 
 returns-3 : tie.Need-returns-3
-returns-3 c = picked-stop _ _ _ _ _ _ (omega arith) (goes-told _ _ _ (ap wayOf (c .before .e .given .1)) (c .before .before .before .skip-var-names .ensures))
+returns-3 c = picked-stop _ _ _ _ _ _ (omega arith) (goes-told _ _ _ (ap wayOf (c .before .e .given .1)) (goes-at (stays-many _ (c .before .before .before .before .before .before .before .args .k) (stays-variable _ _)) _ (c .before .before .before .skip-var-names .ensures)))
 
 returns-4 : tie.Need-returns-4
-returns-4 c = picked-read _ _ _ _ _ _ (omega arith) (goes-told _ _ _ (ap wayOf (c .before .before .before .before .before .p .given .1)) (c .before .before .before .before .before .before .before .skip-var-names .ensures)) (ap varNameStep (c .before .e2 .given .1)) (c .before .before .before .read-var-name .ensures)
+returns-4 c = picked-read _ _ _ _ _ _ (omega arith) (goes-told _ _ _ (ap wayOf (c .before .before .before .before .before .p .given .1)) (goes-at (stays-many _ (c .before .before .before .before .before .before .before .before .before .before .before .args .k) (stays-variable _ _)) _ (c .before .before .before .before .before .before .before .skip-var-names .ensures))) (ap varNameStep (c .before .e2 .given .1)) (reads-at (stays-variable _ _) _ (c .before .before .before .read-var-name .ensures))
 
 returns-5 : tie.Need-returns-5
-returns-5 c = picked-read _ _ _ _ _ _ (omega arith) (goes-told _ _ _ (ap wayOf (c .before .before .before .before .before .p .given .1)) (c .before .before .before .before .before .before .before .skip-var-names .ensures)) (ap varNameStep (c .before .x .given .1)) (c .before .before .before .read-var-name .ensures)
+returns-5 c = picked-read _ _ _ _ _ _ (omega arith) (goes-told _ _ _ (ap wayOf (c .before .before .before .before .before .p .given .1)) (goes-at (stays-many _ (c .before .before .before .before .before .before .before .before .before .before .before .args .k) (stays-variable _ _)) _ (c .before .before .before .before .before .before .before .skip-var-names .ensures))) (ap varNameStep (c .before .x .given .1)) (reads-at (stays-variable _ _) _ (c .before .before .before .read-var-name .ensures))
 
 pub find-var-name-spec : {M : Type 1} → statement M
 find-var-name-spec =

@@ -1,0 +1,5 @@
+pub mod Short
+pub mod Costs
+pub mod Entries
+pub mod Sections
+pub mod Laws
