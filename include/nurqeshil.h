@@ -1,15 +1,21 @@
 /* Nurqeshil: a verified reader for IronPLC bytecode containers, as a static library.
  *
  *     rt staticlib capi           builds target/staticlib/libcapi.a
- *     cc main.c libcapi.a
+ *     cc -I include main.c target/staticlib/libcapi.a
  *
- * Every function reads the file anew and keeps nothing. None asks anything of the bytes: any file is answered, by what was asked for
- * or by a refusal. Pointers must not be null, also where a length or a room is 0. A buffer that is lent (`out`, `digest`) must not
- * overlap what is read, nor another that is lent.
+ * The library keeps nothing between calls. No function has a precondition on the bytes: any file is answered, by what was asked for
+ * or by a refusal. Pointers must not be null, even where a length or room is 0. A lent buffer (`out`, `digest`) must not overlap
+ * anything that is read, nor another lent buffer.
+ *
+ * A file of more than 65,536 bytes is refused with CONTAINER_TOO_LONG; room for one byte more is enough to see that.
+ *
+ * What a call costs. container_load, container_ask, container_line, container_content_hash and container_list read the whole file at
+ * every call, and hash it if it carries a content hash or a debug hash. container_lookup reads only the section that it looks in: load a file once, and look up
+ * over the numbers of its record.
  *
  * Answers in numbers. `out` then starts with 0 and the answer's numbers, or with a refusal's number and its values, and the function
- * answers how many; what stands behind them is left as it was. `room` counts numbers, and with room for less than
- * CONTAINER_ROOM nothing is written and the answer is 0.
+ * returns their count; the numbers behind them are left as they were. `room` counts numbers; if it is below CONTAINER_ROOM, nothing
+ * is written and 0 is returned.
  */
 #ifndef NURQESHIL_H
 #define NURQESHIL_H
@@ -22,10 +28,10 @@ extern "C" {
 #endif
 
 #define CONTAINER_ROOM 64    /* numbers that `out` must have room for */
-#define CONTAINER_LOADED 44  /* numbers of a file that loads */
+#define CONTAINER_LOADED 44  /* numbers of a file that loads; later versions may write more behind them */
 #define CONTAINER_DIGEST 32  /* bytes of a hash */
 
-/* The refusals, with the values that stand behind their numbers. README.md says what to do about each. */
+/* The refusals, with the values behind their numbers. README.md says what to do about each. */
 enum container_refusal {
     CONTAINER_SHORT_INPUT = 1,
     CONTAINER_INVALID_MAGIC = 2,
@@ -50,11 +56,12 @@ enum container_refusal {
 /* Loads a file. Behind the 0: version, profile, flags; offset and size of signature, debug signature, types, tasks, constants,
  * code, debug; stack depth, call depth, variables, data region bytes, temporary buffers, their bytes, functions, FB types,
  * input, output and memory image bytes; tasks, programs, shared globals size; 1 if there are types, FB types, arrays, user FBs;
- * constants; 1 if there is debug, lines, variables, functions, strings, files, enumerations. Counts of what is not there are 0. */
+ * constants; 1 if there is debug, lines, variables, functions, strings, files, enumerations. The counts of absent types or debug
+ * are 0. These CONTAINER_LOADED numbers, the 0 included, stand for the file's record in container_lookup. */
 size_t container_load(const uint8_t *file, size_t length, uint64_t *out, size_t room);
 
-/* The kinds of lookup, with the answer's numbers. Each takes `index`; those marked (i, j) take `second`, too.
- * A part is two numbers, its place in the file and its length. */
+/* The kinds of lookup, with the answer's numbers. Each takes `index`; those with a pair in brackets also take `second`.
+ * A part is two numbers: its place in the file and its length. Bytes that are one number are in it low byte first. */
 enum container_kind {
     CONTAINER_TASK = 0,               /* id, priority, type, flags, interval, single variable, watchdog, input and output image
                                          offset, the 4 reserved bytes as one number */
@@ -65,7 +72,7 @@ enum container_kind {
     CONTAINER_ARRAY = 4,              /* type, elements, extra, stride */
     CONTAINER_ARRAY_SIZE = 5,         /* bytes */
     CONTAINER_USER_FB = 6,            /* type id, function, variable offset, fields */
-    CONTAINER_CONSTANT = 7,           /* type; of types 0 to 5 the eight kept bytes as one number, of 6 and 7 a part */
+    CONTAINER_CONSTANT = 7,           /* type; for types 0 to 5 the eight kept bytes as one number, for 6 and 7 a part */
     CONTAINER_GET_I32 = 8,            /* the value as 64 bits of two's complement: cast it to int64_t */
     CONTAINER_GET_U32 = 9,            /* the value */
     CONTAINER_GET_I64 = 10,           /* the value, to be cast to int64_t */
@@ -77,7 +84,7 @@ enum container_kind {
     CONTAINER_FUNCTION = 16,          /* the stored id, offset, length, stack, locals, parameters */
     CONTAINER_BYTECODE = 17,          /* a part */
     CONTAINER_LINE = 18,              /* (function, offset in its bytecode): function, offset, file, line, column */
-    CONTAINER_LINE_ENTRY = 19,        /* the same of an entry of the line map */
+    CONTAINER_LINE_ENTRY = 19,        /* the same for an entry of the line map */
     CONTAINER_VARIABLE = 20,          /* index, function, section, type, the name's part, the type name's part */
     CONTAINER_FUNCTION_NAME = 21,     /* id, the name's part */
     CONTAINER_STRING_LAYOUT = 22,     /* variable, data offset, length */
@@ -86,26 +93,39 @@ enum container_kind {
     CONTAINER_ENUMERATION_VALUE = 25  /* (enumeration, value): the name's part */
 };
 
-/* Asks a lookup of a file that loads; a file that does not load answers its refusal. Bytes that are one number stand low byte
- * first in it. Of a file that loads, an unknown kind has no numbers: the answer is 0. Kind, index and second have 16 bits: the C compiler cuts a larger
- * number to its low 16 bits without a warning, and another entry is looked up. Test first that it is at most 65,535. */
+/* Looks up over a file and the record of a file: `record` is what container_load wrote, its first 0 included, and `numbers` is its
+ * length; `out` must not be the same buffer. Only the first CONTAINER_LOADED numbers count. The record is not trusted: it may be made up, or that of another file. The
+ * lookup reads its section again, in `file`, at the record's place, size and function count, and answers over the record of the file
+ * itself what container_ask answers. Hashes are not checked again.
+ *
+ * The numbers stand for no record if there are fewer than CONTAINER_LOADED, the first is not 0, a number is more than its field of
+ * the header or count of 16 bits can hold, a flag (types, debug) is neither 0 nor 1, or a count beside a flag 0 is not 0. Then, and
+ * for an unknown kind, nothing is written and 0 is returned.
+ *
+ * Kind, index and second have 16 bits: the C compiler cuts a larger number to its low 16 bits, usually without a warning, and another
+ * entry is looked up. Test first that it is at most 65,535. */
+size_t container_lookup(const uint8_t *file, size_t length, const uint64_t *record, size_t numbers, uint16_t kind, uint16_t index,
+                        uint16_t second, uint64_t *out, size_t room);
+
+/* Loads a file and looks up in it, in one call; for a file that does not load the answer is its refusal. For an unknown kind in a
+ * file that loads nothing is written and 0 is returned. Kind, index and second as in container_lookup. */
 size_t container_ask(const uint8_t *file, size_t length, uint16_t kind, uint16_t index, uint16_t second, uint64_t *out, size_t room);
 
 /* The same as container_ask of CONTAINER_LINE, with a function and an offset of 16 bits. */
 size_t container_line(const uint8_t *file, size_t length, uint16_t function, uint16_t offset, uint64_t *out, size_t room);
 
 /* The content hash in the header of a file that loads. `out` then starts with 0, or with a refusal's number and its values, and the
- * function answers how many numbers these are (1, 2 or 3). With 0 the 32 bytes stand at the start of `digest`, and what is behind
- * them is left as it was; with a refusal all of `digest` is. If `digest_length`, in bytes, is below CONTAINER_DIGEST or `room` below
- * CONTAINER_ROOM, nothing is written and the answer is 0. */
+ * function returns the count of these numbers (1, 2 or 3). With 0 the hash is in the first 32 bytes of `digest`, and the bytes behind
+ * them are left as they were; with a refusal all of `digest` is. If `digest_length`, in bytes, is below CONTAINER_DIGEST or `room`
+ * below CONTAINER_ROOM, nothing is written and 0 is returned. */
 size_t container_content_hash(const uint8_t *file, size_t length, uint8_t *digest, size_t digest_length, uint64_t *out, size_t room);
 
-/* BLAKE3 of any bytes, in the same way; CONTAINER_TOO_LONG if they are more than 261,376. */
+/* BLAKE3 of any bytes, in the same way; CONTAINER_TOO_LONG if there are more than 261,376. */
 size_t container_hash(const uint8_t *bytes, size_t length, uint8_t *digest, size_t digest_length, uint64_t *out, size_t room);
 
-/* Lists a file, as the lister does: the text stands at the start of `out`, and its length is answered; the rest is left as it was.
- * `room` counts bytes. If the text does not fit, the answer is 0, and `out` may hold anything. 26 bytes for each byte of the file and
- * 300 more are always enough. */
+/* Lists a file, as the lister does: the text is written at the start of `out`, and its length is returned; the rest is left as it
+ * was. `room` counts bytes. If the text does not fit, 0 is returned, and `out` may hold anything. 26 bytes for each byte of the file
+ * and 300 more are always enough. */
 size_t container_list(const uint8_t *file, size_t length, uint8_t *out, size_t room);
 
 #ifdef __cplusplus

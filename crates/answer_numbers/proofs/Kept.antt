@@ -4,8 +4,8 @@ use mathlib.Core.Path.{_≡_, refl, ap, _∙_}
 use mathlib.Core.List.{List, _++_}
 use lib.ListN.{length, take, replicate}
 use lib.Seq.{take-at}
-use Rattle.answer_numbers.specs.Answers.{numbersOf, numbersIn}
+use Rattle.answer_numbers.specs.Answers.{capacity, numbersOf, numbersIn}
 use Rattle.answer_numbers.specs.declared.Numbers.{Numbers}
 
-pub told : {ns : List ℕ} {r : Numbers} → r ≡ numbersOf ns → numbersIn r ≡ ns
-told {ns} e = ap numbersIn e ∙ take-at ns (replicate (12 - length ns) 0) (length ns) refl
+pub numbers-kept : {ns : List ℕ} {r : Numbers} → r ≡ numbersOf ns → numbersIn r ≡ ns
+numbers-kept {ns} e = ap numbersIn e ∙ take-at ns (replicate (capacity - length ns) 0) (length ns) refl

@@ -4,8 +4,12 @@ use mathlib.Core.List.{List, _++_}
 use lib.ListN.{length, take, replicate}
 use Rattle.answer_numbers.specs.declared.Numbers.{Numbers}
 
+-- the most numbers of an answer
+abbrev pub capacity : ℕ
+capacity = 12
+
 abbrev pub numbersOf : List ℕ → Numbers
-numbersOf ns = record { numbers = ns ++ replicate (12 - length ns) 0; count = length ns }
+numbersOf ns = record { numbers = ns ++ replicate (capacity - length ns) 0; count = length ns }
 
 -- what any such struct stands for
 abbrev pub numbersIn : Numbers → List ℕ

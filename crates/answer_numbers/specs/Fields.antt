@@ -19,9 +19,9 @@ abbrev pub refusalNumbers : Fault → List ℕ
 refusalNumbers f = refusalNumber f ∷ refusalValues f
 
 -- an answer whose numbers `list` gives
-abbrev pub answered : {A : Type 0} → (A → List ℕ) → Got A → List ℕ
-answered list (refused f) = refusalNumbers f
-answered list (found a) = 0 ∷ list a
+abbrev pub answerNumbers : {A : Type 0} → (A → List ℕ) → Got A → List ℕ
+answerNumbers list (refused f) = refusalNumbers f
+answerNumbers list (found a) = 0 ∷ list a
 
 abbrev pub valueNumbers : ℕ → List ℕ
 valueNumbers n = n ∷ []
@@ -64,7 +64,7 @@ arrayNumbers a = a .kind ∷ a .elements ∷ a .extra ∷ a .stride ∷ []
 abbrev pub userFbNumbers : UserFb → List ℕ
 userFbNumbers u = u .id ∷ u .function ∷ u .variableOffset ∷ u .fieldCount ∷ []
 
--- type, then of a number its eight kept bytes as one number, low byte first, and of a string its place and length
+-- type, then for a number its eight kept bytes as one number, low byte first, and for a string its place and length
 abbrev pub keptNumbers : Kept Place → List ℕ
 keptNumbers (number b) = le b ∷ []
 keptNumbers (string p) = p .offset ∷ p .size ∷ []

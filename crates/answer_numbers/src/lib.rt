@@ -1,6 +1,6 @@
 // The numbers of each kind of answer: a refusal's number and values, or 0 and the answer's fields.
 ghost use mathlib.Core.Path.{_≡_};
-ghost use mathlib.Core.List.{_∷_, _++_};
+ghost use mathlib.Core.List.{[], _∷_, _++_};
 ghost use Rattle.reading.specs.Numbers.{le, bytesLe};
 ghost use Rattle.base.specs.Error.{faultOf};
 ghost use Rattle.base.specs.Section.{partFrom};
@@ -12,7 +12,7 @@ ghost use Rattle.task_table.specs.Answers.{taskFrom, programFrom};
 ghost use Rattle.type_entries.specs.Answers.{sizeFrom};
 ghost use Rattle.type_section.specs.Answers.{arrayFrom, fbTypeFrom, fieldFrom, userFbFrom};
 ghost use Rattle.answer_numbers.specs.Answers.{numbersOf};
-ghost use Rattle.answer_numbers.specs.Fields.{refusalNumbers, answered};
+ghost use Rattle.answer_numbers.specs.Fields.{refusalNumbers, answerNumbers};
 ghost use Rattle.answer_numbers.specs.Fields.{bitsOf, keptNumbers, arrayNumbers, constantNumbers, enumerationNumbers, fbTypeNumbers, fieldNumbers, functionNameNumbers, functionNumbers, layoutNumbers, lineNumbers, partNumbers, programNumbers, signedNumbers, sourceNumbers, taskNumbers, userFbNumbers, valueNumbers, variableNumbers};
 use base::error::ContainerError;
 use base::section::PartAnswer;
@@ -26,8 +26,8 @@ use constant_pool::U64Answer;
 use constant_pool::WidthAnswer;
 use debug_section::EnumerationAnswer;
 use debug_section::FunctionNameAnswer;
-use debug_section::LayoutAnswer;
-use debug_section::SourceAnswer;
+use debug_section::SourceFileAnswer;
+use debug_section::StringLayoutAnswer;
 use debug_section::ValueAnswer;
 use debug_section::VariableAnswer;
 use line_map::LineAnswer;
@@ -39,10 +39,23 @@ use type_section::FbTypeAnswer;
 use type_section::FieldAnswer;
 use type_section::UserFbAnswer;
 
+// The most numbers of an answer.
+pub const CAPACITY: usize = 12;
+
 // The first `count` of these numbers; zeros stand behind them.
 pub struct Numbers {
-    pub numbers: [u64; 12],
+    pub numbers: [u64; CAPACITY],
     pub count: usize,
+}
+
+// No numbers: there is no answer.
+pub fn no_numbers() -> Numbers
+    ensures { λ r. ⌜ r ≡ numbersOf [] ⌝ }
+{
+    Numbers {
+        numbers: [0; CAPACITY],
+        count: 0,
+    }
 }
 
 pub fn refusal(e: ContainerError) -> Numbers
@@ -81,7 +94,7 @@ fn bits(n: i64) -> u64
     n as u64
 }
 
-// The number that eight bytes are, low byte first, from those of their two words.
+// The number of eight bytes, low byte first, from their two words.
 fn eight(low: u32, high: u32) -> u64
     ensures { λ r. ⌜ r ≡ le (bytesLe 4 low ++ bytesLe 4 high) ⌝ }
 {
@@ -89,7 +102,7 @@ fn eight(low: u32, high: u32) -> u64
 }
 
 pub fn task_numbers(answer: TaskAnswer) -> Numbers
-    ensures { λ r. ⌜ r ≡ numbersOf (answered taskNumbers (taskFrom answer)) ⌝ }
+    ensures { λ r. ⌜ r ≡ numbersOf (answerNumbers taskNumbers (taskFrom answer)) ⌝ }
 {
     match answer {
         TaskAnswer::Refused(e) => refusal(e),
@@ -118,7 +131,7 @@ pub fn task_numbers(answer: TaskAnswer) -> Numbers
 }
 
 pub fn program_numbers(answer: ProgramAnswer) -> Numbers
-    ensures { λ r. ⌜ r ≡ numbersOf (answered programNumbers (programFrom answer)) ⌝ }
+    ensures { λ r. ⌜ r ≡ numbersOf (answerNumbers programNumbers (programFrom answer)) ⌝ }
 {
     match answer {
         ProgramAnswer::Refused(e) => refusal(e),
@@ -143,7 +156,7 @@ pub fn program_numbers(answer: ProgramAnswer) -> Numbers
 }
 
 pub fn fb_type_numbers(answer: FbTypeAnswer) -> Numbers
-    ensures { λ r. ⌜ r ≡ numbersOf (answered fbTypeNumbers (fbTypeFrom answer)) ⌝ }
+    ensures { λ r. ⌜ r ≡ numbersOf (answerNumbers fbTypeNumbers (fbTypeFrom answer)) ⌝ }
 {
     match answer {
         FbTypeAnswer::Refused(e) => refusal(e),
@@ -168,7 +181,7 @@ pub fn fb_type_numbers(answer: FbTypeAnswer) -> Numbers
 }
 
 pub fn field_numbers(answer: FieldAnswer) -> Numbers
-    ensures { λ r. ⌜ r ≡ numbersOf (answered fieldNumbers (fieldFrom answer)) ⌝ }
+    ensures { λ r. ⌜ r ≡ numbersOf (answerNumbers fieldNumbers (fieldFrom answer)) ⌝ }
 {
     match answer {
         FieldAnswer::Refused(e) => refusal(e),
@@ -184,7 +197,7 @@ pub fn field_numbers(answer: FieldAnswer) -> Numbers
 }
 
 pub fn array_numbers(answer: ArrayAnswer) -> Numbers
-    ensures { λ r. ⌜ r ≡ numbersOf (answered arrayNumbers (arrayFrom answer)) ⌝ }
+    ensures { λ r. ⌜ r ≡ numbersOf (answerNumbers arrayNumbers (arrayFrom answer)) ⌝ }
 {
     match answer {
         ArrayAnswer::Refused(e) => refusal(e),
@@ -209,7 +222,7 @@ pub fn array_numbers(answer: ArrayAnswer) -> Numbers
 }
 
 pub fn size_numbers(answer: SizeAnswer) -> Numbers
-    ensures { λ r. ⌜ r ≡ numbersOf (answered valueNumbers (sizeFrom answer)) ⌝ }
+    ensures { λ r. ⌜ r ≡ numbersOf (answerNumbers valueNumbers (sizeFrom answer)) ⌝ }
 {
     match answer {
         SizeAnswer::Refused(e) => refusal(e),
@@ -221,7 +234,7 @@ pub fn size_numbers(answer: SizeAnswer) -> Numbers
 }
 
 pub fn user_fb_numbers(answer: UserFbAnswer) -> Numbers
-    ensures { λ r. ⌜ r ≡ numbersOf (answered userFbNumbers (userFbFrom answer)) ⌝ }
+    ensures { λ r. ⌜ r ≡ numbersOf (answerNumbers userFbNumbers (userFbFrom answer)) ⌝ }
 {
     match answer {
         UserFbAnswer::Refused(e) => refusal(e),
@@ -246,7 +259,7 @@ pub fn user_fb_numbers(answer: UserFbAnswer) -> Numbers
 }
 
 pub fn i32_numbers(answer: I32Answer) -> Numbers
-    ensures { λ r. ⌜ r ≡ numbersOf (answered signedNumbers (i32From answer)) ⌝ }
+    ensures { λ r. ⌜ r ≡ numbersOf (answerNumbers signedNumbers (i32From answer)) ⌝ }
 {
     match answer {
         I32Answer::Refused(e) => refusal(e),
@@ -262,7 +275,7 @@ pub fn i32_numbers(answer: I32Answer) -> Numbers
 }
 
 pub fn u32_numbers(answer: U32Answer) -> Numbers
-    ensures { λ r. ⌜ r ≡ numbersOf (answered valueNumbers (u32From answer)) ⌝ }
+    ensures { λ r. ⌜ r ≡ numbersOf (answerNumbers valueNumbers (u32From answer)) ⌝ }
 {
     match answer {
         U32Answer::Refused(e) => refusal(e),
@@ -274,7 +287,7 @@ pub fn u32_numbers(answer: U32Answer) -> Numbers
 }
 
 pub fn i64_numbers(answer: I64Answer) -> Numbers
-    ensures { λ r. ⌜ r ≡ numbersOf (answered signedNumbers (i64From answer)) ⌝ }
+    ensures { λ r. ⌜ r ≡ numbersOf (answerNumbers signedNumbers (i64From answer)) ⌝ }
 {
     match answer {
         I64Answer::Refused(e) => refusal(e),
@@ -289,7 +302,7 @@ pub fn i64_numbers(answer: I64Answer) -> Numbers
 }
 
 pub fn u64_numbers(answer: U64Answer) -> Numbers
-    ensures { λ r. ⌜ r ≡ numbersOf (answered valueNumbers (u64From answer)) ⌝ }
+    ensures { λ r. ⌜ r ≡ numbersOf (answerNumbers valueNumbers (u64From answer)) ⌝ }
 {
     match answer {
         U64Answer::Refused(e) => refusal(e),
@@ -301,7 +314,7 @@ pub fn u64_numbers(answer: U64Answer) -> Numbers
 }
 
 pub fn part_numbers(answer: PartAnswer) -> Numbers
-    ensures { λ r. ⌜ r ≡ numbersOf (answered partNumbers (partFrom answer)) ⌝ }
+    ensures { λ r. ⌜ r ≡ numbersOf (answerNumbers partNumbers (partFrom answer)) ⌝ }
 {
     match answer {
         PartAnswer::Refused(e) => refusal(e),
@@ -313,7 +326,7 @@ pub fn part_numbers(answer: PartAnswer) -> Numbers
 }
 
 pub fn width_numbers(answer: WidthAnswer) -> Numbers
-    ensures { λ r. ⌜ r ≡ numbersOf (answered valueNumbers (widthFrom answer)) ⌝ }
+    ensures { λ r. ⌜ r ≡ numbersOf (answerNumbers valueNumbers (widthFrom answer)) ⌝ }
 {
     match answer {
         WidthAnswer::Refused(e) => refusal(e),
@@ -328,7 +341,7 @@ pub fn width_numbers(answer: WidthAnswer) -> Numbers
 }
 
 pub fn function_numbers(answer: FuncAnswer) -> Numbers
-    ensures { λ r. ⌜ r ≡ numbersOf (answered functionNumbers (funcFrom answer)) ⌝ }
+    ensures { λ r. ⌜ r ≡ numbersOf (answerNumbers functionNumbers (funcFrom answer)) ⌝ }
 {
     match answer {
         FuncAnswer::Refused(e) => refusal(e),
@@ -353,7 +366,7 @@ pub fn function_numbers(answer: FuncAnswer) -> Numbers
 }
 
 pub fn line_numbers(answer: LineAnswer) -> Numbers
-    ensures { λ r. ⌜ r ≡ numbersOf (answered lineNumbers (lineFrom answer)) ⌝ }
+    ensures { λ r. ⌜ r ≡ numbersOf (answerNumbers lineNumbers (lineFrom answer)) ⌝ }
 {
     match answer {
         LineAnswer::Refused(e) => refusal(e),
@@ -378,7 +391,7 @@ pub fn line_numbers(answer: LineAnswer) -> Numbers
 }
 
 pub fn variable_numbers(answer: VariableAnswer) -> Numbers
-    ensures { λ r. ⌜ r ≡ numbersOf (answered variableNumbers (variableFrom answer)) ⌝ }
+    ensures { λ r. ⌜ r ≡ numbersOf (answerNumbers variableNumbers (variableFrom answer)) ⌝ }
 {
     match answer {
         VariableAnswer::Refused(e) => refusal(e),
@@ -403,7 +416,7 @@ pub fn variable_numbers(answer: VariableAnswer) -> Numbers
 }
 
 pub fn function_name_numbers(answer: FunctionNameAnswer) -> Numbers
-    ensures { λ r. ⌜ r ≡ numbersOf (answered functionNameNumbers (functionNameFrom answer)) ⌝ }
+    ensures { λ r. ⌜ r ≡ numbersOf (answerNumbers functionNameNumbers (functionNameFrom answer)) ⌝ }
 {
     match answer {
         FunctionNameAnswer::Refused(e) => refusal(e),
@@ -427,12 +440,12 @@ pub fn function_name_numbers(answer: FunctionNameAnswer) -> Numbers
     }
 }
 
-pub fn layout_numbers(answer: LayoutAnswer) -> Numbers
-    ensures { λ r. ⌜ r ≡ numbersOf (answered layoutNumbers (layoutFrom answer)) ⌝ }
+pub fn layout_numbers(answer: StringLayoutAnswer) -> Numbers
+    ensures { λ r. ⌜ r ≡ numbersOf (answerNumbers layoutNumbers (layoutFrom answer)) ⌝ }
 {
     match answer {
-        LayoutAnswer::Refused(e) => refusal(e),
-        LayoutAnswer::Entry(s) => Numbers {
+        StringLayoutAnswer::Refused(e) => refusal(e),
+        StringLayoutAnswer::Entry(s) => Numbers {
             numbers: [
                 0,
                 s.var_index.0 as u64,
@@ -452,12 +465,12 @@ pub fn layout_numbers(answer: LayoutAnswer) -> Numbers
     }
 }
 
-pub fn source_numbers(answer: SourceAnswer) -> Numbers
-    ensures { λ r. ⌜ r ≡ numbersOf (answered sourceNumbers (sourceFrom answer)) ⌝ }
+pub fn source_numbers(answer: SourceFileAnswer) -> Numbers
+    ensures { λ r. ⌜ r ≡ numbersOf (answerNumbers sourceNumbers (sourceFrom answer)) ⌝ }
 {
     match answer {
-        SourceAnswer::Refused(e) => refusal(e),
-        SourceAnswer::Entry(s) => {
+        SourceFileAnswer::Refused(e) => refusal(e),
+        SourceFileAnswer::Entry(s) => {
             let h = s.content_hash;
             let first = eight(h.0, h.1);
             let second = eight(h.2, h.3);
@@ -485,7 +498,7 @@ pub fn source_numbers(answer: SourceAnswer) -> Numbers
 }
 
 pub fn enumeration_numbers(answer: EnumerationAnswer) -> Numbers
-    ensures { λ r. ⌜ r ≡ numbersOf (answered (λ e. enumerationNumbers (e .head)) (enumerationFrom answer)) ⌝ }
+    ensures { λ r. ⌜ r ≡ numbersOf (answerNumbers (λ e. enumerationNumbers (e .head)) (enumerationFrom answer)) ⌝ }
 {
     match answer {
         EnumerationAnswer::Refused(e) => refusal(e),
@@ -510,7 +523,7 @@ pub fn enumeration_numbers(answer: EnumerationAnswer) -> Numbers
 }
 
 pub fn value_numbers(answer: ValueAnswer) -> Numbers
-    ensures { λ r. ⌜ r ≡ numbersOf (answered partNumbers (valueFrom answer)) ⌝ }
+    ensures { λ r. ⌜ r ≡ numbersOf (answerNumbers partNumbers (valueFrom answer)) ⌝ }
 {
     match answer {
         ValueAnswer::Refused(e) => refusal(e),
@@ -551,7 +564,7 @@ fn kept_numbers(kind: u64, kept: Kept) -> Numbers
 }
 
 pub fn constant_numbers(answer: ConstAnswer) -> Numbers
-    ensures { λ r. ⌜ r ≡ numbersOf (answered constantNumbers (constFrom answer)) ⌝ }
+    ensures { λ r. ⌜ r ≡ numbersOf (answerNumbers constantNumbers (constFrom answer)) ⌝ }
 {
     match answer {
         ConstAnswer::Refused(e) => refusal(e),

@@ -6,20 +6,21 @@ use mathlib.Core.Bool.{false, not}
 use mathlib.Core.List.{List, [], _∷_}
 use mathlib.Core.Option.{none}
 use lib.Dec.{leb}
+use lib.ListN.{length}
 use borrow.Author.Tests.{lt-leb}
 use types.Run.{OneOf, miss}
-use denote.Enum.Declared.{tagOf}
+use denote.Enum.Declared.{declared, tagOf}
 use Rattle.reading.specs.Fault.{Fault}
 use Rattle.reading.specs.Answer.{refused, found, _>>_, need}
 use Rattle.format.specs.Constants.{isNumber}
-use Rattle.base.specs.Error.{faultOf, keptValues, valuesOf}
+use Rattle.base.specs.Error.{faultOf, refusalValues, keptValues, valuesOf}
 use Rattle.base.specs.Small.{constTypeNumber, widthOfType}
 use Rattle.base.specs.declared.const_type.ConstType.{ConstType}
 use Rattle.base.specs.declared.const_type.ConstType.the-variants as const
 use Rattle.base.specs.declared.error.ContainerError.{ContainerError}
-use Rattle.base.specs.declared.error.ContainerError.the-variants as e
 use Rattle.base.proofs.const_type.ConstType.{the-type as const-type}
-use Rattle.base.proofs.error.ContainerError.{the-type as error-type}
+use Rattle.base.proofs.error.ContainerError.{enum as error}
+use Rattle.base.proofs.Variants.{allBut, last-arm}
 
 -- a number that is none of those below n, in the form in which the arms 0 to n - 1 leave it
 abbrev pub Missed : ℕ → ℕ → Type 0
@@ -51,26 +52,13 @@ no-string const.F64 h = (refl, refl)
 no-string const.Str h = absurd (miss numbers 6 tt h)
 no-string const.WStr h = absurd (miss numbers 7 tt h)
 
--- a refusal that names no value
+-- a refusal that names no value: all but those of types, of strides and of indexes
 abbrev plain : List ℕ
-plain = 0 ∷ 1 ∷ 2 ∷ 3 ∷ 4 ∷ 9 ∷ 11 ∷ 12 ∷ 13 ∷ 14 ∷ 15 ∷ 16 ∷ 17 ∷ []
+plain = allBut error (5 ∷ 6 ∷ 7 ∷ 8 ∷ 10 ∷ [])
 
-pub no-values : (x : ContainerError) → OneOf plain (tagOf error-type x) → keptValues [] ≡ valuesOf (faultOf x)
-no-values e.ShortInput h = refl
-no-values e.InvalidMagic h = refl
-no-values e.UnsupportedVersion h = refl
-no-values e.SectionSizeMismatch h = refl
-no-values e.ContentHashMismatch h = refl
-no-values (e.InvalidTaskType kind) h = absurd (miss plain 5 tt h)
-no-values (e.InvalidFieldType kind) h = absurd (miss plain 6 tt h)
-no-values (e.InvalidArrayStride kind stride) h = absurd (miss plain 7 tt h)
-no-values (e.InvalidConstantType kind) h = absurd (miss plain 8 tt h)
-no-values e.TooLong h = refl
-no-values (e.InvalidConstantIndex index) h = absurd (miss plain 10 tt h)
-no-values e.NoFunction h = refl
-no-values e.NoLine h = refl
-no-values e.UnsortedMap h = refl
-no-values e.NoDebug h = refl
-no-values e.NoArray h = refl
-no-values e.SizeOverflow h = refl
-no-values e.NoEntry h = refl
+none-kept : (vs : List ℕ) → 0 ≡ length vs → keptValues [] ≡ keptValues vs
+none-kept [] e = refl
+none-kept (v ∷ vs) e = absurd (omega arith)
+
+pub no-values : (x : ContainerError) → OneOf plain (tagOf (declared error) x) → keptValues [] ≡ valuesOf (faultOf x)
+no-values x h = none-kept (refusalValues (faultOf x)) (last-arm error plain 0 (λ y. length (refusalValues (faultOf y))) (omega arith) (omega arith) x h)

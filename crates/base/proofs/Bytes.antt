@@ -17,7 +17,7 @@ use Rattle.format.specs.Parts.{part, same}
 use Rattle.reading.specs.Numbers.{bytesLe, wordBytes}
 use Rattle.base.specs.declared.digest.Digest.{Digest}
 
--- bytes put together to a number and taken apart again
+-- a number made of bytes, and taken apart again
 bytes-of-le : (b : List ℕ) → Bytes b → bytesLe (length b) (le b) ≡ b
 unfolding bytesLe le
 bytes-of-le [] h = refl
@@ -31,7 +31,7 @@ bytes-of-le (x ∷ b) h =
 pub bytes-at : (w : ℕ) (s : List ℕ) (at : ℕ) → Bytes s → at + w ≤ length s → bytesLe w (leAt w s at) ≡ part at w s
 bytes-at w s at h l = ap (λ (k : ℕ). bytesLe k (leAt w s at)) (sym (length-part s at w l)) ∙ bytes-of-le (part at w s) (bytes-part s at w h)
 
--- words that stand one behind the other, `m` bytes behind a place and at it
+-- words one after the other, `m` bytes after a place and at it
 abbrev Behind : List ℕ → ℕ → ℕ → List ℕ → Type 0
 Behind s at m [] = Unit {0}
 Behind s at m (w ∷ ws) = (w ≡ leAt 4 s (at + m)) × Behind s at (m + 4) ws

@@ -126,7 +126,7 @@ module _ {A : Type 0} (r : Reader A) (s : List ℕ) (t : Table) where
       let n : length s - length (drop m s) ≡ m = omega arith in
       rw (ne-eqb (t .count) 0 h, k, n)
 
-  -- by what was read there, and what a `match` on the answer told
+  -- by what was read there, and the arm of a `match` on the answer
   pub step-read : {v w : Step A} → (t .count ≡ 0 → ⊥) → v ≡ w → Reads r s (t .at) v → nextBy t w ≡ stepOf r s t
   step-read {v} {w} h e q = go w (reads-told r s (t .at) e q)
     where

@@ -1,3 +1,4 @@
+pub mod Variants
 pub mod Arms
 pub mod Bytes
 pub mod Sections

@@ -1,4 +1,4 @@
--- A section's part of the file: 10 over the limit, 4 where it is not in the file behind the header, also at size 0, and else its place.
+-- A section's part of the file: 10 over the limit, 4 if it is not in the file behind the header, also at size 0, otherwise its place.
 use Prim.Native.Nat.{ℕ, _+_, _≤_}
 use mathlib.Core.Bool.{cond}
 use mathlib.Core.List.{List, []}
@@ -26,7 +26,7 @@ use Rattle.base.specs.declared.section.PartAnswer.the-variants as answer
 abbrev pub partIn : Part → Place
 partIn p = record { offset = p .offset; size = p .size }
 
--- its bytes; none where it does not lie in the file
+-- its bytes; none if it does not lie in the file
 unfoldable pub bytesOf : List ℕ → Place → List ℕ
 bytesOf f p = cond (leb (p .offset + p .size) (length f)) (cut f p) []
 
@@ -34,7 +34,7 @@ abbrev pub partFrom : PartAnswer → Got Place
 partFrom (answer.Refused e) = refused (faultOf e)
 partFrom (answer.Part p) = found (partIn p)
 
--- a part that is answered lies in the file. Of a section's part this follows from `sectionPart`; it is said beside it for callers, who cut the part out
+-- an answered part lies in the file. For a section's part this follows from `sectionPart`; it is stated for callers, who slice by it
 abbrev pub PartWithin : List ℕ → PartAnswer → Type 0
 PartWithin f (answer.Refused e) = Unit {0}
 PartWithin f (answer.Part p) = p .offset + p .size ≤ length f
@@ -59,17 +59,17 @@ abbrev pub startFrom : StartAnswer → Got Table
 startFrom (start.Refused e) = refused (faultOf e)
 startFrom (start.Start t) = found t
 
--- where reading goes on behind what was passed over
+-- where reading goes on after what was passed over
 abbrev pub wayFrom : Walk → Way
 wayFrom (walk.Refused e) = stopsBy (faultOf e)
 wayFrom (walk.At m) = onTo m
 
--- whether a section reads: its refusal, or nothing more
+-- whether a section reads: a refusal if not
 abbrev pub checkedFrom : Checked → Got (Unit {0})
 checkedFrom (checked.Refused e) = refused (faultOf e)
 checkedFrom checked.Good = found tt
 
--- the bytes of an answer that is a part, none where it is a refusal
+-- the bytes of an answered part; none if the answer is a refusal
 abbrev pub bytesOr : List ℕ → Got Place → List ℕ
 bytesOr f (refused e) = []
 bytesOr f (found p) = cut f p

@@ -1,4 +1,4 @@
--- The small enumerations, each with its numbers by one definition; what taking a byte for one of them answers.
+-- The small enumerations: the numbers of their variants, and the answer for a byte.
 use Prim.Native.Nat.{ℕ, _+_, _*_}
 use mathlib.Core.Bool.{Bool, true, false, _||_, cond}
 use mathlib.Core.Option.{Option, none, some}
@@ -47,7 +47,7 @@ charWidthFrom (widthAnswer.Width w) = is (byteWidth w)
 abbrev pub charWidthOfByte : ℕ → Width
 charWidthOfByte v = cond (eqb v 1 || eqb v 2) (is v) (isNone v)
 
--- the bytes of a string of so many characters, behind a header of 6
+-- the bytes of a string of `maxLength` characters, with its header of 6
 abbrev pub stringRegionSize : ℕ → CharWidth → ℕ
 stringRegionSize maxLength w = 6 + maxLength * byteWidth w
 
@@ -114,7 +114,7 @@ fieldTypeFrom (fieldAnswer.Type t) = found (fieldTypeNumber t)
 abbrev pub fieldTypeOf : ℕ → Got ℕ
 fieldTypeOf v = need (leb v 10) (invalidFieldType v) >> found v
 
--- the type of a string whose characters are so wide
+-- the string type with this character width
 abbrev pub stringType : CharWidth → ℕ
 stringType width.Narrow = 6
 stringType width.Wide = 7

@@ -1,15 +1,15 @@
-// Bytes to a character of a string.
+// Bytes per character of a string.
 ghost use mathlib.Core.Path.{_≡_};
 ghost use Rattle.base.specs.Small.{byteWidth, isWide, charWidthFrom, charWidthOfByte};
 
 pub enum CharWidth {
-    // STRING: Latin-1, one byte to a character.
+    // STRING: Latin-1, one byte per character.
     Narrow,
-    // WSTRING: UTF-16, two bytes to a code unit.
+    // WSTRING: UTF-16, two bytes per code unit.
     Wide,
 }
 
-// A byte taken for a width: the width, or the byte where it is neither 1 nor 2.
+// A byte as a width: the width, or the byte if it is neither 1 nor 2.
 pub enum CharWidthAnswer {
     Invalid(u8),
     Width(CharWidth),

@@ -59,7 +59,7 @@ impl ConstType {
         }
     }
 
-    // Bytes to a character of a string constant.
+    // Bytes per character of a string constant.
     pub fn char_width(self) -> MaybeCharWidth
         ensures { λ r. ⌜ maybeWidth r ≡ widthOfType (constTypeNumber self) ⌝ }
     {

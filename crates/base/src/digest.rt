@@ -3,7 +3,7 @@ use reading::u32_at;
 ghost use mathlib.Core.Path.{_≡_};
 ghost use Prim.Native.Nat.{_+_, _≤_};
 ghost use lib.ListN.{length};
-ghost use Rattle.format.specs.Parts.{part, same};
+ghost use Rattle.format.specs.Parts.{hashSize, part, same};
 ghost use Rattle.format.specs.Integrity.{noHash};
 ghost use Rattle.reading.specs.Numbers.{wordBytes};
 ghost use Rattle.base.specs.Digest.{digestBytes};
@@ -11,7 +11,7 @@ ghost use Rattle.base.specs.Digest.{digestBytes};
 // The bytes of a digest.
 pub const HASH_LEN: usize = 32;
 
-// All zero: no digest is given.
+// All zero: no digest.
 pub const NO_HASH: Digest = Digest(0, 0, 0, 0, 0, 0, 0, 0);
 
 pub struct Digest(
@@ -25,10 +25,10 @@ pub struct Digest(
     pub u32,
 );
 
-// The digest whose 32 bytes stand at `at`.
+// The digest at `at`.
 pub fn digest_at(s: &[u8], at: usize) -> Digest
-    requires { ⌜ at + 32 ≤ length (now s) ⌝ }
-    ensures { λ r. ⌜ digestBytes r ≡ part at 32 (now (s .entry)) ⌝ }
+    requires { ⌜ at + hashSize ≤ length (now s) ⌝ }
+    ensures { λ r. ⌜ digestBytes r ≡ part at hashSize (now (s .entry)) ⌝ }
 {
     Digest(
         u32_at(s, at),
@@ -50,7 +50,7 @@ impl Digest {
         Digest(w[0], w[1], w[2], w[3], w[4], w[5], w[6], w[7])
     }
 
-    // Whether no digest is given.
+    // Whether this is no digest, all zero.
     pub fn is_zero(self) -> bool
         ensures { λ r. ⌜ r ≡ noHash (digestBytes self) ⌝ }
     {
@@ -70,8 +70,8 @@ impl Digest {
             && self.7 == other.7
     }
 
-    // The 32 bytes.
-    pub fn bytes(self) -> [u8; 32]
+    // Its bytes.
+    pub fn bytes(self) -> [u8; HASH_LEN]
         ensures { λ r. ⌜ r ≡ digestBytes self ⌝ }
     {
         let words = [
@@ -84,8 +84,8 @@ impl Digest {
             self.6,
             self.7,
         ];
-        let mut b = [0u8; 32];
-        for i in 0..32usize {
+        let mut b = [0u8; HASH_LEN];
+        for i in 0..HASH_LEN {
             b[i] = ((words[i / 4] >> (8 * (i % 4))) % 256) as u8;
         }
         b

@@ -1,4 +1,5 @@
-// The refusals of document 01's table.
+// The refusals of document 01's table. One more without values takes a line each here, in `number` and in `faultOf` of `specs/Error.antt`,
+// and two in the proof of `number`; nothing else changes.
 use crate::id_types::ConstantIndex;
 ghost use mathlib.Core.Path.{_≡_};
 ghost use mathlib.Core.List.{[], _∷_};

@@ -61,7 +61,7 @@ impl FieldType {
         }
     }
 
-    // The type of a string whose characters are so wide.
+    // The string type with this character width.
     pub fn string(char_width: CharWidth) -> FieldType
         ensures { λ r. ⌜ fieldTypeNumber r ≡ stringType «char_width» ⌝ }
     {

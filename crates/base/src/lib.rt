@@ -1,4 +1,4 @@
-// What every section stands on.
+// What every section uses.
 pub mod char_width;
 pub mod const_type;
 pub mod digest;

@@ -8,10 +8,13 @@ ghost use Rattle.base.specs.Section.{placeIn, partIn, bytesOf, partFrom,
 // The library's limit on a file.
 pub const FILE_LIMIT: usize = 65536;
 
+// The programs' own limit on a file, whatever the library's is.
+pub const PROGRAM_LIMIT: usize = 65536;
+
 // The size of the header.
 pub const HEADER_SIZE: usize = 256;
 
-// Where the header says that a section lies; nothing vouches for it.
+// Where the header says a section lies; not checked.
 pub struct Section {
     pub offset: u32,
     pub size: u32,
@@ -29,7 +32,7 @@ pub enum PartAnswer {
     Part(Part),
 }
 
-// Where reading goes on behind what was passed over.
+// Where reading goes on after what was passed over.
 pub enum Walk {
     Refused(ContainerError),
     At(usize),
@@ -59,7 +62,7 @@ pub fn is_inside(file: &[u8], section: Section) -> bool
     start + length <= file.len()
 }
 
-// The part of the file that a section is. That it lies in the file follows from the equation; callers cut it out of the file by that.
+// The part of the file that a section occupies. The equation implies that it lies in the file; callers slice by that.
 pub fn section_part(file: &[u8], section: Section) -> PartAnswer
     ensures { λ r. ⌜ (partFrom r ≡ sectionPart (now (file .entry)) (placeIn section)) × PartWithin (now (file .entry)) r ⌝ }
 {
@@ -76,7 +79,7 @@ pub fn section_part(file: &[u8], section: Section) -> PartAnswer
 }
 
 impl Part {
-    // That part of the file; none of it where it does not lie in the file.
+    // That part of the file; empty if it does not lie in the file.
     pub fn of(self, file: &[u8]) -> &[u8]
         ensures { λ r. ⌜ now r ≡ bytesOf (now (file .entry)) (partIn self) ⌝ }
     {

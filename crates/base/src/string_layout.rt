@@ -1,11 +1,11 @@
-// The layout of a string in the data region: maximal length, present length and width of 2 bytes each, then the characters.
+// The layout of a string in the data region: maximum length, current length and width, 2 bytes each, then the characters.
 use crate::char_width::CharWidth;
 ghost use mathlib.Core.Path.{_≡_};
 ghost use Rattle.base.specs.Small.{stringRegionSize};
 
 pub const STRING_HEADER_BYTES: usize = 6;
 
-// The maximal length, in characters, of a string that is declared without one.
+// The maximum length, in characters, of a string declared without one.
 pub const DEFAULT_STRING_MAX_LENGTH: u16 = 254;
 
 // The bytes of a string of at most `max_length` characters, with its header.

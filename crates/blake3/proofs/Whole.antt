@@ -1,4 +1,4 @@
--- An input fed and finished gives what hashing it gives: BLAKE3 of it, or 10 where it is too long.
+-- Feeding an input and finishing gives the same as hashing it: its BLAKE3 digest, or 10 if it is too long.
 use mathlib.Core.Path.{_≡_, sym, ap, _∙_}
 use mathlib.Core.List.{List, [], _∷_, append-nil}
 use mathlib.Core.Logic.{⊎-elim}
@@ -38,7 +38,7 @@ finish-within h p = rw (le-leb (fill h) hashLimit p)
 
 -- ---- from the start
 
--- as many bytes as there were, up to the capacity, which is above the limit
+-- all bytes up to the capacity, which is above the limit
 taken : (bs : List ℕ) → fill (fed start bs) ≡ min capacity (length bs)
 taken bs = laws .fills start bs ∙ zero-add (min capacity (length bs))
 

@@ -1,4 +1,4 @@
--- BLAKE3 in hash mode, 32 bytes out; asked alone it refuses more than 261,376 bytes with 10 (document 01's table).
+-- BLAKE3 in hash mode, 32 bytes out. Asked alone it refuses more than `hashLimit` bytes with 10 (document 01: "hash asked alone").
 use Prim.Native.Nat.{ℕ}
 use mathlib.Core.List.{List}
 use lib.Dec.{leb}
@@ -26,6 +26,6 @@ hashFrom (answer.Digest d) = found (digestBytes d)
 unfoldable pub hashAsked : List ℕ → Got (List ℕ)
 hashAsked bs = need (leb (length bs) hashLimit) tooLong >> found (blake3 bs)
 
--- the digest of what a state has taken in, refused in the same way
+-- the digest of what a state has taken in, with the same refusal
 unfoldable pub finishAsked : Hasher → Got (List ℕ)
 finishAsked h = need (leb (fill h) hashLimit) tooLong >> found (wordBytes (finished h))

@@ -1,2 +1,3 @@
-pub mod Asking
-pub mod Saying
+pub mod Lookups
+pub mod Filled
+pub mod Laws

@@ -1,4 +1,4 @@
--- What stands in the caller's buffers afterwards: `before` became `after`, and r was answered.
+-- What a function leaves in the caller's buffers: `before` becomes `after`, and the function returns r.
 use Prim.Native.Nat.{ℕ, _≤_}
 use mathlib.Core.Bool.{Bool, _&&_, cond}
 use mathlib.Core.List.{List, [], _++_}
@@ -6,42 +6,39 @@ use mathlib.Core.Path.{_≡_}
 use lib.Dec.{leb}
 use lib.ListN.{length, drop}
 use Rattle.reading.specs.Answer.{Got, refused, found}
-use Rattle.answer_numbers.specs.Fields.{answered}
+use Rattle.lent.specs.Output.{putAtStart}
+use Rattle.answer_numbers.specs.Fields.{answerNumbers}
 
--- the numbers that a caller lends room for, and the bytes of a digest
+-- the numbers that a caller must lend room for, and the bytes of a digest
 abbrev pub room : ℕ
 room = 64
 
 abbrev pub digestRoom : ℕ
 digestRoom = 32
 
--- a buffer that starts with `ns` now; the rest is as it was
-abbrev pub startsWith : List ℕ → List ℕ → List ℕ
-startsWith ns before = ns ++ drop (length ns) before
-
--- Numbers. With room for 64 the buffer starts with them and r is how many they are. With less the buffer is as it was and r is 0
+-- Numbers. With room for 64 the buffer starts with them and r is their count. With less room the buffer is as it was and r is 0
 abbrev pub hasRoom : List ℕ → Bool
 hasRoom out = leb room (length out)
 
-pub record Said (before ns after : List ℕ) (r : ℕ) : Type 0 where
+pub record Answered (before ns after : List ℕ) (r : ℕ) : Type 0 where
   pub answer : r ≡ cond (hasRoom before) (length ns) 0
-  pub buffer : after ≡ cond (hasRoom before) (startsWith ns before) before
+  pub buffer : after ≡ cond (hasRoom before) (putAtStart before ns) before
 
--- A hash. The numbers are 0, or a refusal's number and values; a digest stands in a buffer of its own, which a refusal leaves as it was
+-- A hash. The numbers are 0, or a refusal's number and values; a digest has a buffer of its own, which a refusal leaves as it was
 abbrev pub hashNumbers : Got (List ℕ) → List ℕ
-hashNumbers g = answered (λ d. []) g
+hashNumbers g = answerNumbers (λ d. []) g
 
 abbrev pub digestPut : Got (List ℕ) → List ℕ → List ℕ
 digestPut (refused f) before = before
 digestPut (found d) before = d ++ drop digestRoom before
 
--- With room for 32 bytes and for 64 numbers both are put, and r is how many numbers there are. With less of either both buffers are as they were and r is 0
+-- With room for 32 bytes and for 64 numbers both are written, and r is the count of the numbers. With less room in either both buffers are as they were and r is 0
 abbrev pub hasBoth : List ℕ → List ℕ → Bool
 hasBoth digest out = leb digestRoom (length digest) && hasRoom out
 
 pub record Hashed (g : Got (List ℕ)) (digest digestAfter out outAfter : List ℕ) (r : ℕ) : Type 0 where
   pub answer : r ≡ cond (hasBoth digest out) (length (hashNumbers g)) 0
-  pub numbers : outAfter ≡ cond (hasBoth digest out) (startsWith (hashNumbers g) out) out
+  pub numbers : outAfter ≡ cond (hasBoth digest out) (putAtStart out (hashNumbers g)) out
   pub bytes : digestAfter ≡ cond (hasBoth digest out) (digestPut g digest) digest
 
 -- A text. If it fits, the buffer starts with it, r is its length, and the rest is as it was; else r is 0, and what the buffer then holds is left free
@@ -50,4 +47,4 @@ listedLength before t = cond (leb (length t) (length before)) (length t) 0
 
 pub record Listed (before t after : List ℕ) (r : ℕ) : Type 0 where
   pub answer : r ≡ listedLength before t
-  pub text : length t ≤ length before → after ≡ startsWith t before
+  pub text : length t ≤ length before → after ≡ putAtStart before t

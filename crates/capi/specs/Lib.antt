@@ -1,3 +1,3 @@
-pub mod Loaded
 pub mod Asked
 pub mod Lent
+pub mod Laws

@@ -22,12 +22,12 @@ use Rattle.format.specs.Code.{Function, function, Code, codeOf, bytecodeOf}
 use Rattle.format.specs.Lookups.{readAt, functionOf, functionBytesOf}
 use Rattle.format.proofs.Answers.{never, item-got}
 use Rattle.format.proofs.Readers.{local-function}
-use Rattle.code_section.specs.Lookups.{directoryAt, nextFunctionAt}
+use Rattle.code_section.specs.Lookups.{funcEntrySize, directoryAt, nextFunctionAt}
 use Rattle.code_section.specs.Laws.{Laws}
 use Rattle.base.proofs.FileLookups.{Answered, answered, placed}
 use Rattle.base.proofs.FileWalks.{opened, walk-gives-from}
 
-pub function-at : (s : List ℕ) (at : ℕ) → at + 16 ≤ length s → function (drop at s)
+pub function-at : (s : List ℕ) (at : ℕ) → at + funcEntrySize ≤ length s → function (drop at s)
     ≡ got
     (record {
       id = leAt 2 s at;
@@ -37,7 +37,7 @@ pub function-at : (s : List ℕ) (at : ℕ) → at + 16 ≤ length s → functio
       locals = leAt 2 s (at + 12);
       parameters = leAt 2 s (at + 14);
     })
-    (drop (at + 16) s)
+    (drop (at + funcEntrySize) s)
 unfolding function
 function-at s at h =
     rw (
@@ -46,10 +46,10 @@ function-at s at h =
       number-at 4 s (at + 6) (at + 10) (omega arith) (omega arith),
       number-at 2 s (at + 10) (at + 12) (omega arith) (omega arith),
       number-at 2 s (at + 12) (at + 14) (omega arith) (omega arith),
-      number-at 2 s (at + 14) (at + 16) (omega arith) h,
+      number-at 2 s (at + 14) (at + funcEntrySize) (omega arith) h,
     )
 
-pub function-fixed : Fixed 16 function
+pub function-fixed : Fixed funcEntrySize function
 unfolding function
 function-fixed =
     fixed-bind (fixed-number 2) λ i.
@@ -61,48 +61,48 @@ function-fixed =
 
 -- the section, by whether its directory is there
 module _ (n : ℕ) (s : List ℕ) where
-  code-short : length s < 16 * n → codeOf n s ≡ fault shortInput
+  code-short : length s < funcEntrySize * n → codeOf n s ≡ fault shortInput
   unfolding codeOf
   code-short h = rw (fixed-many n function-fixed .short s h)
 
   record Directory : Type 0 where
     functions : List Function
-    reads : many n function s ≡ got functions (drop (16 * n) s)
-    code : codeOf n s ≡ got (record { functions = functions; bytecode = drop (16 * n) s }) []
+    reads : many n function s ≡ got functions (drop (funcEntrySize * n) s)
+    code : codeOf n s ≡ got (record { functions = functions; bytecode = drop (funcEntrySize * n) s }) []
 
-  directory : 16 * n ≤ length s → Directory
+  directory : funcEntrySize * n ≤ length s → Directory
   unfolding codeOf
   directory h = let k = fixed-many n function-fixed .whole s h in record { functions = k .0; reads = k .1; code = rw (k .1) }
 
-  -- what is asked of a section that is too short, and whether it reads
-  pub short-refused : {A : Type 0} (go : Code → Got A) → length s < 16 * n → refused shortInput ≡ (itemOf (codeOf n s) >>= go)
+  -- answers over a section that is too short, and whether the section reads
+  pub short-refused : {A : Type 0} (go : Code → Got A) → length s < funcEntrySize * n → refused shortInput ≡ (itemOf (codeOf n s) >>= go)
   short-refused go h = rw (code-short h)
 
-  pub code-good : 16 * n ≤ length s → found tt ≡ (itemOf (codeOf n s) >>= λ c. found (tt {0}))
+  pub code-good : funcEntrySize * n ≤ length s → found tt ≡ (itemOf (codeOf n s) >>= λ c. found (tt {0}))
   code-good h = rw (directory h .code)
 
   -- the function at a position
-  pub function-out : (k : ℕ) → 16 * n ≤ length s → n ≤ k → refused noFunction ≡ (itemOf (codeOf n s) >>= functionOf k)
-  function-out k l h = let d = directory l in rw (d .code) (sym (index-out function k n s (d .functions) (drop (16 * n) s) noFunction h (d .reads)))
+  pub function-out : (k : ℕ) → funcEntrySize * n ≤ length s → n ≤ k → refused noFunction ≡ (itemOf (codeOf n s) >>= functionOf k)
+  function-out k l h = let d = directory l in rw (d .code) (sym (index-out function k n s (d .functions) (drop (funcEntrySize * n) s) noFunction h (d .reads)))
 
-  pub function-found : (k : ℕ) {f : Function} → 16 * n ≤ length s → k < n → function (drop (16 * k) s) ≡ got f (drop (16 * k + 16) s)
+  pub function-found : (k : ℕ) {f : Function} → funcEntrySize * n ≤ length s → k < n → function (drop (funcEntrySize * k) s) ≡ got f (drop (funcEntrySize * k + funcEntrySize) s)
       → found f ≡ (itemOf (codeOf n s) >>= functionOf k)
   function-found k {f} l h e =
       let d = directory l in
-      let x = at-width function (fixed-width function-fixed) k n s (d .functions) (drop (16 * n) s) h (d .reads) in
-      rw (d .code) (sym (at-picked function x f (drop (16 * k + 16) s) e noFunction))
+      let x = at-width function (fixed-width function-fixed) k n s (d .functions) (drop (funcEntrySize * n) s) h (d .reads) in
+      rw (d .code) (sym (at-picked function x f (drop (funcEntrySize * k + funcEntrySize) s) e noFunction))
 
 -- a function that was found in the section at a place of the file, and its bytecode behind the directory
 module _ (f : List ℕ) (p : Place) (n k : ℕ) (x : Function) where
-  pub record Listed : Type 0 where
+  pub record Located : Type 0 where
     pub inside : Inside f p
-    pub room : 16 * n ≤ p .size
-    pub bytecode : (readAt f p (codeOf n) >>= functionBytesOf (byPlace p) k) ≡ bytecodeOf (byPlace p) (drop (16 * n) (cut f p)) x
+    pub room : funcEntrySize * n ≤ p .size
+    pub bytecode : (readAt f p (codeOf n) >>= functionBytesOf (byPlace p) k) ≡ bytecodeOf (byPlace p) (drop (funcEntrySize * n) (cut f p)) x
 
-  pub listed : found x ≡ (readAt f p (codeOf n) >>= functionOf k) → Listed
-  listed e = go (answered f p (codeOf n) (functionOf k) e) (decLe (16 * n) (length (cut f p)))
+  pub located : found x ≡ (readAt f p (codeOf n) >>= functionOf k) → Located
+  located e = go (answered f p (codeOf n) (functionOf k) e) (decLe (funcEntrySize * n) (length (cut f p)))
     where
-      go : Answered f p (codeOf n) (functionOf k) → Dec (16 * n ≤ length (cut f p)) → Listed
+      go : Answered f p (codeOf n) (functionOf k) → Dec (funcEntrySize * n ≤ length (cut f p)) → Located
       go a (yes i) =
           let d = directory n (cut f p) i in
           let l = length-part f (p .offset) (p .size) (a .inside .within) in
@@ -110,23 +110,23 @@ module _ (f : List ℕ) (p : Place) (n k : ℕ) (x : Function) where
           record { inside = a .inside; room = omega arith; bytecode = rw (a .reads, d .code, ← g) }
       go a (no i) = never (sym (rw (a .reads, code-short n (cut f p) (omega arith)) at e))
 
-  module _ (h : Listed) where
-    behind : length (drop (16 * n) (cut f p)) ≡ p .size - 16 * n
-    behind = length-drop (16 * n) (cut f p) ∙ ap (λ (l : ℕ). l - 16 * n) (length-part f (p .offset) (p .size) (h .inside .within))
+  module _ (h : Located) where
+    behind : length (drop (funcEntrySize * n) (cut f p)) ≡ p .size - funcEntrySize * n
+    behind = length-drop (funcEntrySize * n) (cut f p) ∙ ap (λ (l : ℕ). l - funcEntrySize * n) (length-part f (p .offset) (p .size) (h .inside .within))
 
-    pub bytecode-outside : p .size - 16 * n < x .offset + x .size → refused noFunction ≡ (readAt f p (codeOf n) >>= functionBytesOf (byPlace p) k)
-    bytecode-outside o = rw (h .bytecode, behind, lt-leb (x .offset + x .size) (p .size - 16 * n) o)
+    pub bytecode-outside : p .size - funcEntrySize * n < x .offset + x .size → refused noFunction ≡ (readAt f p (codeOf n) >>= functionBytesOf (byPlace p) k)
+    bytecode-outside o = rw (h .bytecode, behind, lt-leb (x .offset + x .size) (p .size - funcEntrySize * n) o)
 
-    pub bytecode-inside : x .offset + x .size ≤ p .size - 16 * n
-        → found (record { offset = p .offset + 16 * n + x .offset; size = x .size }) ≡ (readAt f p (codeOf n) >>= functionBytesOf (byPlace p) k)
+    pub bytecode-inside : x .offset + x .size ≤ p .size - funcEntrySize * n
+        → found (record { offset = p .offset + funcEntrySize * n + x .offset; size = x .size }) ≡ (readAt f p (codeOf n) >>= functionBytesOf (byPlace p) k)
     bytecode-inside i =
-        let l = length-part (drop (16 * n) (cut f p)) (x .offset) (x .size) (omega (arith, behind)) in
+        let l = length-part (drop (funcEntrySize * n) (cut f p)) (x .offset) (x .size) (omega (arith, behind)) in
         let r = h .room in
         rw (
           h .bytecode,
           behind,
-          le-leb (x .offset + x .size) (p .size - 16 * n) i,
-          placed p (part (x .offset) (x .size) (drop (16 * n) (cut f p))) (p .offset + 16 * n + x .offset) (x .size) (p .size - 16 * n - (x .offset + x .size)) l (omega arith),
+          le-leb (x .offset + x .size) (p .size - funcEntrySize * n) i,
+          placed p (part (x .offset) (x .size) (drop (funcEntrySize * n) (cut f p))) (p .offset + funcEntrySize * n + x .offset) (x .size) (p .size - funcEntrySize * n - (x .offset + x .size)) l (omega arith),
         )
 
 -- a walk over the directory in a file

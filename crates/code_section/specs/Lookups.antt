@@ -1,4 +1,4 @@
--- What the section's reader and its lookups answer: over the section's bytes `s`, and over a file and the section's place `p` in it.
+-- What the section's reader, its lookups and its walk answer: over the section's bytes `s`, and over a file and the section's place `p` in it.
 -- `n` is the header's function count.
 use Prim.Native.Nat.{ℕ}
 use mathlib.Core.List.{List}
@@ -10,11 +10,15 @@ use Rattle.format.specs.Code.{Function, function, codeOf}
 use Rattle.format.specs.Lookups.{readAt, functionOf, functionBytesOf}
 use Rattle.base.specs.Section.{stepIn}
 
+-- the bytes of an entry of the directory
+abbrev pub funcEntrySize : ℕ
+funcEntrySize = 16
+
 -- whether the section reads
 abbrev pub codeReads : ℕ → List ℕ → Got (Unit {0})
 codeReads n s = itemOf (codeOf n s) >>= λ c. found tt
 
--- the function at a position
+-- the function at a position (document 01: "by position in the directory, never by the stored id")
 abbrev pub functionIn : ℕ → List ℕ → ℕ → Got Function
 functionIn n s k = itemOf (codeOf n s) >>= functionOf k
 

@@ -7,7 +7,7 @@ ghost use Rattle.reading.specs.Places.{stepOf};
 ghost use Rattle.format.specs.Code.{function};
 ghost use Rattle.base.specs.Section.{placeIn, partFrom, PartWithin, checkedFrom, startFrom, bytesOr};
 ghost use Rattle.code_section.specs.Answers.{funcIn, funcFrom, funcNextFrom};
-ghost use Rattle.code_section.specs.Lookups.{codeReads, functionIn, functionAt, bytecodeAt, directoryAt, nextFunctionAt};
+ghost use Rattle.code_section.specs.Lookups.{funcEntrySize, codeReads, functionIn, functionAt, bytecodeAt, directoryAt, nextFunctionAt};
 ghost use Rattle.code_section.specs.Laws.{Laws};
 use base::error::ContainerError;
 use base::id_types::FunctionId;
@@ -47,8 +47,8 @@ pub enum FuncNext {
 
 // The entry at the place `at` of the section `s`.
 fn entry_at(s: &[u8], at: usize) -> FuncEntry
-    requires { ⌜ at + 16 ≤ length (now s) ⌝ }
-    ensures { λ r. ⌜ function (drop at (now (s .entry))) ≡ got (funcIn r) (drop (at + 16) (now (s .entry))) ⌝ }
+    requires { ⌜ at + funcEntrySize ≤ length (now s) ⌝ }
+    ensures { λ r. ⌜ function (drop at (now (s .entry))) ≡ got (funcIn r) (drop (at + funcEntrySize) (now (s .entry))) ⌝ }
 {
     FuncEntry {
         function_id: FunctionId::new(u16_at(s, at)),
@@ -60,7 +60,7 @@ fn entry_at(s: &[u8], at: usize) -> FuncEntry
     }
 }
 
-// The section's reader: the directory of `num_functions` must be there.
+// The section's reader: the directory of `num_functions` entries must be there.
 pub fn read_from(s: &[u8], num_functions: u16) -> Checked
     ensures { λ r. ⌜ checkedFrom r ≡ codeReads «num_functions» (now (s .entry)) ⌝ }
 {
@@ -130,7 +130,7 @@ pub fn bytecode_part(
     }
 }
 
-// A function's bytecode: that part of the file, and an empty part where `bytecode_part` refuses.
+// A function's bytecode: that part of the file, or an empty part where `bytecode_part` refuses.
 pub fn get_function_bytecode(
     file: &[u8],
     section: Section,
@@ -206,7 +206,7 @@ pub fn next_function(file: &[u8], section: Section, t: Table) -> FuncNext
     }
 }
 
-// The claims of `specs/Laws.antt` hold. There is no code: the contract makes the check prove them.
+// The claims of `specs/Laws.antt` hold. Empty body: the contract makes the checker prove them.
 pub fn laws_hold()
     ensures { λ _. ⌜ Laws ⌝ }
 {}

@@ -1,4 +1,4 @@
--- The steps on a row are made word by word, and the steps of a round on rows make the definition's round.
+-- The steps on a row are done word by word, and the steps of a round on rows give the round of the definition.
 use mathlib.Core.Path.{_≡_, refl, sym, ap, _∙_}
 use mathlib.Core.List.{List, [], _∷_}
 use Prim.Native.Nat.{ℕ}

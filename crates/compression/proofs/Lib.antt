@@ -1,4 +1,4 @@
--- What the proofs of several functions share.
+-- Laws that the proofs of several functions share.
 pub mod Table
 pub mod ByRows
 pub mod Chain

@@ -1,5 +1,5 @@
--- BLAKE3's compression function, as its specification gives it (section 2.2).
--- A state is a list of 16 words, a block of message a list of 16 words, a chaining value a list of 8.
+-- BLAKE3's compression function, as its specification defines it (section 2.2).
+-- A state is a list of 16 words, a message block a list of 16 words, a chaining value a list of 8.
 use Prim.Native.Nat.{ℕ, zero, suc, _+_, _/_, _%_, _^_}
 use mathlib.Core.List.{List, [], _∷_, _++_, map}
 use lib.ListN.{getD, set}
@@ -51,17 +51,17 @@ unfoldable pub rounds : ℕ → List ℕ → List ℕ → List ℕ
 rounds zero v m = v
 rounds (suc n) v m = rounds n (round v m) (permute m)
 
--- the first words of the fractional parts of the square roots of the first eight primes
+-- the first 32 bits of the fractional parts of the square roots of the first eight primes
 abbrev pub iv : List ℕ
 iv = 0x6A09E667 ∷ 0xBB67AE85 ∷ 0x3C6EF372 ∷ 0xA54FF53A ∷ 0x510E527F ∷ 0x9B05688C ∷ 0x1F83D9AB ∷ 0x5BE0CD19 ∷ []
 
--- the state that compression starts from: chaining value h, counter t, length of the block, flags
+-- the state that compression starts from: chaining value h, counter t, the block's length, flags
 abbrev pub start : List ℕ → (t len flags : ℕ) → List ℕ
 start h t len flags =
     at h 0 ∷ at h 1 ∷ at h 2 ∷ at h 3 ∷ at h 4 ∷ at h 5 ∷ at h 6 ∷ at h 7
     ∷ at iv 0 ∷ at iv 1 ∷ at iv 2 ∷ at iv 3 ∷ t % 2 ^ 32 ∷ t / 2 ^ 32 ∷ len ∷ flags ∷ []
 
--- the two halves of the state, word by word
+-- the two halves of the state combined, word by word
 abbrev pub fold : List ℕ → List ℕ
 fold v =
     xor (at v 0) (at v 8) ∷ xor (at v 1) (at v 9) ∷ xor (at v 2) (at v 10) ∷ xor (at v 3) (at v 11)

@@ -1,4 +1,4 @@
--- What callers use of the definitions, so that they need not open them.
+-- Laws of the definitions, for callers that do not unfold them.
 use mathlib.Core.Path.{_≡_, refl, sym, ap, ap₂, _∙_}
 use mathlib.Core.List.{List, [], _∷_, _++_}
 use mathlib.Core.Logic.{⊎-elim}
@@ -11,6 +11,7 @@ use lib.Seq.{take-suc, take-all, getD-at, drop-nil}
 use Rattle.reading.specs.Numbers.{le, leAt}
 use Rattle.reading.proofs.Le.{le-take-fill}
 use Rattle.reading.proofs.Parts.{part-of-part}
+use Rattle.compression.specs.Sizes.{blockLen}
 use Rattle.compression.specs.Word.{table, words}
 use Rattle.compression.specs.Compression.{start, rounds, fold, compress}
 
@@ -42,13 +43,13 @@ unfolding table
 take-table l zero h = refl
 take-table l (suc n) h = take-suc l n 0 h ∙ ap (λ (k : List ℕ). k ++ (getD l n 0 ∷ [])) (take-table l n (omega arith))
 
--- a list of known length is the table of its elements, so at a numeral it is written out
+-- a list of known length is the table of its elements; at a numeral it is written out
 pub spread : (l : List ℕ) (n : ℕ) → length l ≡ n → l ≡ table (λ i. getD l i 0) n
 spread l n e = sym (take-all n l (le-of-eq e)) ∙ take-table l n (omega arith)
 
 -- ---- words
 
--- zeros behind the end change no word
+-- zeros after the end change no word
 leAt-filled : (w k : ℕ) (l : List ℕ) (n : ℕ) → leAt w (l ++ replicate n 0) k ≡ leAt w l k
 leAt-filled w zero l n = le-take-fill w l n
 leAt-filled w (suc k) (x ∷ l) n = leAt-filled w k l n
@@ -59,10 +60,10 @@ pub words-filled : (b : List ℕ) (n : ℕ) → words (b ++ replicate n 0) ≡ w
 unfolding words
 words-filled b n = table-ext _ _ 16 (λ i h. leAt-filled 4 (4 * i) b n)
 
--- the words are those of the first 64 bytes
-pub words-take : (b : List ℕ) → words (take 64 b) ≡ words b
+-- only the bytes of the first block matter
+pub words-take : (b : List ℕ) → words (take blockLen b) ≡ words b
 unfolding words
-words-take b = table-ext _ _ 16 (λ i h. ap le (rw zero-add at (part-of-part b 0 64 (4 * i) 4 (omega arith))))
+words-take b = table-ext _ _ 16 (λ i h. ap le (rw zero-add at (part-of-part b 0 blockLen (4 * i) 4 (omega arith))))
 
 -- ---- compression, step by step
 

@@ -1,3 +1,4 @@
+pub mod Sizes
 pub mod Word
 pub mod Compression
 pub mod Chain

@@ -1,4 +1,4 @@
--- The steps of a round on rows of the state, four words place by place.
+-- The steps of a round on rows of the state, on four words at a time.
 use Prim.Native.Nat.{ℕ}
 use mathlib.Core.List.{List, [], _∷_}
 use Rattle.compression.specs.Word.{add32, xor, rotr}
@@ -44,7 +44,7 @@ half v x y =
     let b2 = turn 7 b1 c2 in
     square a2 b2 c2 d2
 
--- the rows below the first shifted by 1, 2 and 3 places, so that the diagonals are columns, and shifted back
+-- the rows below the first shifted by 1, 2 and 3 places, which makes columns of the diagonals, and shifted back
 unfoldable pub shifted : List ℕ → List ℕ
 shifted v = square (four v 0 1 2 3) (four v 5 6 7 4) (four v 10 11 8 9) (four v 15 12 13 14)
 

@@ -1,14 +1,32 @@
-// BLAKE3's compression function. Each contract says that the result is what the definition of specs/ gives.
+// BLAKE3's compression function. Each contract says that the result equals a definition in specs/.
 ghost use mathlib.Core.Path.{_≡_};
 ghost use mathlib.Core.List.{_++_};
 ghost use Prim.Native.Nat.{_+_, _≤_};
 ghost use lib.ListN.{length, drop};
-ghost use Rattle.compression.specs.Word as W;
-ghost use Rattle.compression.specs.Compression as C;
-ghost use Rattle.compression.specs.Rows as R;
+ghost use Rattle.compression.specs.Word as Word;
+ghost use Rattle.compression.specs.Compression as Compression;
+ghost use Rattle.compression.specs.Rows as Rows;
 ghost use Rattle.compression.specs.Chain.{startFlag};
+ghost use Rattle.compression.specs.Sizes.{blockLen};
 
-const CHUNK_START: u32 = 1;
+// The bytes of a block, and of a chunk.
+pub const BLOCK_LEN: usize = 64;
+
+pub const CHUNK_LEN: usize = 1024;
+
+// The number of a chunk's last block, counted from 0, and where in the chunk that block starts.
+pub const LAST_BLOCK: usize = CHUNK_LEN / BLOCK_LEN - 1;
+
+pub const LAST_BLOCK_START: usize = CHUNK_LEN - BLOCK_LEN;
+
+// The flags of a compression.
+pub const CHUNK_START: u32 = 1;
+
+pub const CHUNK_END: u32 = 2;
+
+pub const PARENT: u32 = 4;
+
+pub const ROOT: u32 = 8;
 
 // The first 32 bits of the fractional parts of the square roots of the first eight primes.
 const IV: [u32; 8] = [
@@ -24,46 +42,46 @@ const IV: [u32; 8] = [
 
 // The chaining value before any input.
 pub fn iv() -> [u32; 8]
-    ensures { λ r. ⌜ r ≡ C.iv ⌝ }
+    ensures { λ r. ⌜ r ≡ Compression.iv ⌝ }
 {
     IV
 }
 
 // a + b modulo 2^32.
 fn add(a: u32, b: u32) -> u32
-    ensures { λ r. ⌜ r ≡ W.add32 a b ⌝ }
+    ensures { λ r. ⌜ r ≡ Word.add32 a b ⌝ }
 {
     std::num::wrapping_add_u32(a, b)
 }
 
-// The rotations. The two parts have no bit in common, so their sum is one rotation of the machine.
+// The rotations. The two parts share no bit, so their sum compiles to one rotate instruction.
 fn rotr16(x: u32) -> u32
-    ensures { λ r. ⌜ r ≡ W.rotr 16 x ⌝ }
+    ensures { λ r. ⌜ r ≡ Word.rotr 16 x ⌝ }
 {
     (x >> 16) + (x << 16)
 }
 
 fn rotr12(x: u32) -> u32
-    ensures { λ r. ⌜ r ≡ W.rotr 12 x ⌝ }
+    ensures { λ r. ⌜ r ≡ Word.rotr 12 x ⌝ }
 {
     (x >> 12) + (x << 20)
 }
 
 fn rotr8(x: u32) -> u32
-    ensures { λ r. ⌜ r ≡ W.rotr 8 x ⌝ }
+    ensures { λ r. ⌜ r ≡ Word.rotr 8 x ⌝ }
 {
     (x >> 8) + (x << 24)
 }
 
 fn rotr7(x: u32) -> u32
-    ensures { λ r. ⌜ r ≡ W.rotr 7 x ⌝ }
+    ensures { λ r. ⌜ r ≡ Word.rotr 7 x ⌝ }
 {
     (x >> 7) + (x << 25)
 }
 
-// The state is a square of words, and a round works on its rows, four words place by place. Here a + b.
+// The state is a square of words. A round works on its rows, on four words at a time; here a + b.
 fn sum(a: [u32; 4], b: [u32; 4]) -> [u32; 4]
-    ensures { λ r. ⌜ r ≡ R.sum a b ⌝ }
+    ensures { λ r. ⌜ r ≡ Rows.sum a b ⌝ }
 {
     [
         add(a[0], b[0]),
@@ -75,14 +93,14 @@ fn sum(a: [u32; 4], b: [u32; 4]) -> [u32; 4]
 
 // a + b + x.
 fn sum3(a: [u32; 4], b: [u32; 4], x: [u32; 4]) -> [u32; 4]
-    ensures { λ r. ⌜ r ≡ R.sum3 a b x ⌝ }
+    ensures { λ r. ⌜ r ≡ Rows.sum3 a b x ⌝ }
 {
     sum(sum(a, b), x)
 }
 
-// a ^ b, each word rotated: by 16, 12, 8 or 7.
+// a ^ b, each word rotated right by 16, 12, 8 or 7.
 fn turn16(a: [u32; 4], b: [u32; 4]) -> [u32; 4]
-    ensures { λ r. ⌜ r ≡ R.turn 16 a b ⌝ }
+    ensures { λ r. ⌜ r ≡ Rows.turn 16 a b ⌝ }
 {
     [
         rotr16(a[0] ^ b[0]),
@@ -93,7 +111,7 @@ fn turn16(a: [u32; 4], b: [u32; 4]) -> [u32; 4]
 }
 
 fn turn12(a: [u32; 4], b: [u32; 4]) -> [u32; 4]
-    ensures { λ r. ⌜ r ≡ R.turn 12 a b ⌝ }
+    ensures { λ r. ⌜ r ≡ Rows.turn 12 a b ⌝ }
 {
     [
         rotr12(a[0] ^ b[0]),
@@ -104,7 +122,7 @@ fn turn12(a: [u32; 4], b: [u32; 4]) -> [u32; 4]
 }
 
 fn turn8(a: [u32; 4], b: [u32; 4]) -> [u32; 4]
-    ensures { λ r. ⌜ r ≡ R.turn 8 a b ⌝ }
+    ensures { λ r. ⌜ r ≡ Rows.turn 8 a b ⌝ }
 {
     [
         rotr8(a[0] ^ b[0]),
@@ -115,7 +133,7 @@ fn turn8(a: [u32; 4], b: [u32; 4]) -> [u32; 4]
 }
 
 fn turn7(a: [u32; 4], b: [u32; 4]) -> [u32; 4]
-    ensures { λ r. ⌜ r ≡ R.turn 7 a b ⌝ }
+    ensures { λ r. ⌜ r ≡ Rows.turn 7 a b ⌝ }
 {
     [
         rotr7(a[0] ^ b[0]),
@@ -127,7 +145,7 @@ fn turn7(a: [u32; 4], b: [u32; 4]) -> [u32; 4]
 
 // The state with the rows a, b, c, d.
 fn square(a: [u32; 4], b: [u32; 4], c: [u32; 4], d: [u32; 4]) -> [u32; 16]
-    ensures { λ r. ⌜ r ≡ R.square a b c d ⌝ }
+    ensures { λ r. ⌜ r ≡ Rows.square a b c d ⌝ }
 {
     [
         a[0],
@@ -149,9 +167,9 @@ fn square(a: [u32; 4], b: [u32; 4], c: [u32; 4], d: [u32; 4]) -> [u32; 16]
     ]
 }
 
-// Four quarter-rounds side by side, on the columns of the state: the words x of the message, then y.
+// Four quarter-rounds side by side, on the columns of the state: first the words x of the message, then y.
 pub fn half(v: [u32; 16], x: [u32; 4], y: [u32; 4]) -> [u32; 16]
-    ensures { λ r. ⌜ r ≡ R.half v x y ⌝ }
+    ensures { λ r. ⌜ r ≡ Rows.half v x y ⌝ }
 {
     let a0 = [v[0], v[1], v[2], v[3]];
     let b0 = [v[4], v[5], v[6], v[7]];
@@ -168,9 +186,9 @@ pub fn half(v: [u32; 16], x: [u32; 4], y: [u32; 4]) -> [u32; 16]
     square(a2, b2, c2, d2)
 }
 
-// The rows below the first shifted by 1, 2 and 3 places: the diagonals are columns then.
+// The rows below the first shifted by 1, 2 and 3 places, which makes columns of the diagonals.
 pub fn shifted(v: [u32; 16]) -> [u32; 16]
-    ensures { λ r. ⌜ r ≡ R.shifted v ⌝ }
+    ensures { λ r. ⌜ r ≡ Rows.shifted v ⌝ }
 {
     [
         v[0],
@@ -194,7 +212,7 @@ pub fn shifted(v: [u32; 16]) -> [u32; 16]
 
 // The rows shifted back.
 pub fn back(v: [u32; 16]) -> [u32; 16]
-    ensures { λ r. ⌜ r ≡ R.back v ⌝ }
+    ensures { λ r. ⌜ r ≡ Rows.back v ⌝ }
 {
     [
         v[0],
@@ -218,7 +236,7 @@ pub fn back(v: [u32; 16]) -> [u32; 16]
 
 // A round: the four columns, then the four diagonals.
 fn round(v: [u32; 16], m: [u32; 16]) -> [u32; 16]
-    ensures { λ r. ⌜ r ≡ C.round v m ⌝ }
+    ensures { λ r. ⌜ r ≡ Compression.round v m ⌝ }
 {
     let columns = half(v, [m[0], m[2], m[4], m[6]], [m[1], m[3], m[5], m[7]]);
     let diagonals = half(
@@ -231,7 +249,7 @@ fn round(v: [u32; 16], m: [u32; 16]) -> [u32; 16]
 
 // The order in which the next round takes the words of the message.
 fn permute(m: [u32; 16]) -> [u32; 16]
-    ensures { λ r. ⌜ r ≡ C.permute m ⌝ }
+    ensures { λ r. ⌜ r ≡ Compression.permute m ⌝ }
 {
     [
         m[2],
@@ -255,7 +273,7 @@ fn permute(m: [u32; 16]) -> [u32; 16]
 
 // The seven rounds.
 fn rounds(state: [u32; 16], block: [u32; 16]) -> [u32; 16]
-    ensures { λ r. ⌜ r ≡ C.rounds 7 state block ⌝ }
+    ensures { λ r. ⌜ r ≡ Compression.rounds 7 state block ⌝ }
 {
     let mut v = state;
     let mut m = block;
@@ -269,8 +287,8 @@ fn rounds(state: [u32; 16], block: [u32; 16]) -> [u32; 16]
 }
 
 // The state that compression starts from.
-pub fn start(h: [u32; 8], t: u64, len: u32, flags: u32) -> [u32; 16]
-    ensures { λ r. ⌜ r ≡ C.start h t len flags ⌝ }
+pub fn start(h: [u32; 8], t: u64, block_len: u32, flags: u32) -> [u32; 16]
+    ensures { λ r. ⌜ r ≡ Compression.start h t «block_len» flags ⌝ }
 {
     [
         h[0],
@@ -287,14 +305,14 @@ pub fn start(h: [u32; 8], t: u64, len: u32, flags: u32) -> [u32; 16]
         IV[3],
         (t % 4294967296) as u32,
         (t / 4294967296) as u32,
-        len,
+        block_len,
         flags,
     ]
 }
 
-// The two halves of the state, word by word.
+// The two halves of the state combined, word by word.
 pub fn fold(v: [u32; 16]) -> [u32; 8]
-    ensures { λ r. ⌜ r ≡ C.fold v ⌝ }
+    ensures { λ r. ⌜ r ≡ Compression.fold v ⌝ }
 {
     [
         v[0] ^ v[8],
@@ -308,24 +326,28 @@ pub fn fold(v: [u32; 16]) -> [u32; 8]
     ]
 }
 
-// The compression function's first eight words: chaining value h, message m, counter t, length of the block, flags.
-pub fn compress(h: [u32; 8], m: [u32; 16], t: u64, len: u32, flags: u32) -> [u32; 8]
-    ensures { λ r. ⌜ r ≡ C.compress h m t len flags ⌝ }
+// The first eight words of the compression function: chaining value h, message m, counter t, the block's length, flags.
+pub fn compress(h: [u32; 8], m: [u32; 16], t: u64, block_len: u32, flags: u32) -> [u32; 8]
+    ensures { λ r. ⌜ r ≡ Compression.compress h m t «block_len» flags ⌝ }
 {
-    fold(rounds(start(h, t, len, flags), m))
+    fold(rounds(start(h, t, block_len, flags), m))
 }
 
-// The flag of a block that is no chunk's last: its number in the chunk is `blocks`.
-pub fn start_flag(blocks: u32) -> u32
-    ensures { λ r. ⌜ (r ≡ startFlag blocks) × (r ≤ 1) ⌝ }
+// The flag of a block that is not its chunk's last, after this many blocks of the chunk.
+pub fn start_flag(blocks_compressed: u32) -> u32
+    ensures { λ r. ⌜ (r ≡ startFlag «blocks_compressed») × (r ≤ 1) ⌝ }
 {
-    if blocks == 0 { CHUNK_START } else { 0 }
+    if blocks_compressed == 0 {
+        CHUNK_START
+    } else {
+        0
+    }
 }
 
-// The words of the block of s that starts at `at`.
+// The words of the block of `s` that starts at `at`.
 pub fn words_at(s: &[u8], at: usize) -> [u32; 16]
-    requires { ⌜ at + 64 ≤ length (now s) ⌝ }
-    ensures { λ r. ⌜ r ≡ W.words (drop at (now (s .entry))) ⌝ }
+    requires { ⌜ at + blockLen ≤ length (now s) ⌝ }
+    ensures { λ r. ⌜ r ≡ Word.words (drop at (now (s .entry))) ⌝ }
 {
     let mut w = [0u32; 16];
     for i in 0..16usize {
@@ -335,8 +357,8 @@ pub fn words_at(s: &[u8], at: usize) -> [u32; 16]
 }
 
 // The words of a block.
-pub fn words_of(b: [u8; 64]) -> [u32; 16]
-    ensures { λ r. ⌜ r ≡ W.words b ⌝ }
+pub fn words_of(b: [u8; BLOCK_LEN]) -> [u32; 16]
+    ensures { λ r. ⌜ r ≡ Word.words b ⌝ }
 {
     words_at(&b, 0)
 }

@@ -1,24 +1,32 @@
--- What the getters make of the constant that was found.
-use mathlib.Core.Path.{_≡_, refl, sym, ap, _∙_}
+-- What the getters pick from the answer of a lookup.
+use mathlib.Core.Path.{_≡_, refl, sym, ap}
 use mathlib.Core.Bool.{Bool, true, false, cond}
 use mathlib.Core.List.{List}
 use mathlib.Core.Option.{Option, none, some}
-use Prim.Native.Nat.{ℕ}
+use Prim.Native.Nat.{ℕ, _+_, _≤_}
+use native.Mathlib.Omega.{arith}
 use borrow.Author.Tests.{eq-eqb, ne-eqb}
 use lib.Dec.{eqb}
-use lib.ListN.{take}
+use lib.ListN.{length, take}
 use Rattle.reading.specs.Fault.{Fault}
 use Rattle.reading.specs.Numbers.{le}
 use Rattle.reading.specs.Answer.{Got, refused, found, _>>=_}
 use Rattle.format.specs.Faults.{invalidConstantType}
 use Rattle.format.specs.Parts.{Place}
-use Rattle.format.specs.Constants.{Kept, number, string, Constant, numberIn, asNumber, asString, charWidth}
-use Rattle.format.specs.Lookups.{constantOf}
-use Rattle.format.proofs.Answers.{absent, same-some, assoc}
-use Rattle.base.specs.Small.{widthOfType}
-use Rattle.constant_pool.specs.Lookups.{poolAt, constantAt, bytesIn, keptAt, numberAt, stringAt, charWidthAt}
+use Rattle.format.specs.Constants.{Kept, number, string, Constant, numberIn, stringIn, charWidth}
+use Rattle.format.proofs.Answers.{never, absent, same-found, same-some}
+use Rattle.base.specs.Small.{constTypeNumber, widthOfType}
+use Rattle.base.specs.Section.{partIn, partFrom, PartWithin}
+use Rattle.base.specs.declared.section.PartAnswer.{PartAnswer}
+use Rattle.base.specs.declared.section.PartAnswer.the-variants as part
+use Rattle.constant_pool.specs.Picks.{bytesIn, keptBytes, numberPicked, stringPlaceOf}
+use Rattle.constant_pool.specs.Answers.{keptIn, KeptEnds, constFrom, ConstEnds}
+use Rattle.constant_pool.specs.declared.Kept as declared
+use Rattle.constant_pool.specs.declared.Kept.the-variants as kept
+use Rattle.constant_pool.specs.declared.ConstAnswer.{ConstAnswer}
+use Rattle.constant_pool.specs.declared.ConstAnswer.the-variants as answer
 
--- an answer made of another: that one's refusal, or what follows of what it found
+-- an answer made of another: its refusal, or what follows from what it found
 module _ {A B : Type 0} (x : Got A) (go : A → Got B) where
   pub after-refused : (f : Fault) → refused f ≡ x → refused f ≡ (x >>= go)
   after-refused f e = ap (λ y. y >>= go) e
@@ -34,7 +42,7 @@ bytes-other kind stored (string t) h = refl
 pub bytes-same : (kind stored : ℕ) (b : List ℕ) → stored ≡ kind → found b ≡ bytesIn kind stored (number b)
 bytes-same kind stored b h = rw (eq-eqb stored kind h)
 
--- the number that the first of them are
+-- the number in the first of them
 bytes-number : (kind width stored : ℕ) (k : Kept Place) → (bytesIn kind stored k >>= λ b. found (le (take width b))) ≡ numberIn kind width stored k
 bytes-number kind width stored (string t) = refl
 bytes-number kind width stored (number b) = go (eqb stored kind)
@@ -44,23 +52,21 @@ bytes-number kind width stored (number b) = go (eqb stored kind)
     go true = refl
     go false = refl
 
-kept-number : (kind width : ℕ) (x : Got (Constant Place))
-    → ((x >>= λ c. bytesIn kind (c .kind) (c .kept)) >>= λ b. found (le (take width b))) ≡ (x >>= asNumber kind width)
+pub kept-number : (kind width : ℕ) (x : Got (Constant Place)) → (keptBytes kind x >>= λ b. found (le (take width b))) ≡ numberPicked kind width x
 kept-number kind width (refused f) = refl
 kept-number kind width (found c) = bytes-number kind width (c .kind) (c .kept)
 
--- the lookups by what the lookup of the entry answers
-module _ (f : List ℕ) (p : Place) (i : ℕ) where
-  pub number-by : (kind width : ℕ) → (keptAt f p kind i >>= λ b. found (le (take width b))) ≡ numberAt f p kind width i
-  number-by kind width = kept-number kind width (constantAt f p i) ∙ assoc (poolAt f p) (constantOf i) (asNumber kind width)
+-- a string that is picked lies in the file if the constant's does
+pub string-within : (f : List ℕ) (a : ConstAnswer) (r : PartAnswer) → partFrom r ≡ stringPlaceOf (constFrom a) → ConstEnds (length f) a → PartWithin f r
+string-within f a (part.Refused e) h w = tt
+string-within f (answer.Refused e) (part.Part p) h w = never (sym h)
+string-within f (answer.Entry c) (part.Part p) h w = go (c .kept) h w
+  where
+    go : (k : declared.Kept) → found (partIn p) ≡ stringIn (constTypeNumber (c .«const_type»)) (keptIn k) → KeptEnds (length f) k → p .offset + p .size ≤ length f
+    go (kept.Number n) h w = never (sym h)
+    go (kept.Part q) h w = omega (arith, ap (λ (x : Place). x .offset + x .size) (same-found h))
 
-  pub string-by : (constantAt f p i >>= asString) ≡ stringAt f p i
-  string-by = assoc (poolAt f p) (constantOf i) asString
-
-  pub width-by : (constantAt f p i >>= charWidth) ≡ charWidthAt f p i
-  width-by = assoc (poolAt f p) (constantOf i) charWidth
-
--- bytes to a character, by the type
+-- bytes per character, by the type
 module _ (kind : ℕ) (k : Kept Place) where
   pub width-none : none ≡ widthOfType kind → refused (invalidConstantType kind) ≡ charWidth (record { kind = kind; kept = k })
   width-none = go (eqb kind 6) (eqb kind 7)

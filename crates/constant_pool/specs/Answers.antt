@@ -6,15 +6,14 @@ use mathlib.Core.Path.{_≡_}
 use lib.IntN.{ℤ}
 use Rattle.reading.specs.Numbers.{bytesLe}
 use Rattle.reading.specs.Answer.{Got, refused, found}
-use Rattle.reading.specs.Places.{Step, stops, item, stepAt, Next, ends, faulty, entry}
+use Rattle.reading.specs.Places.{Step, stops, item, Next, ends, faulty, entry}
 use Rattle.format.specs.Parts.{Place}
 use Rattle.format.specs.Constants as format
 use Rattle.format.specs.Constants.{Constant, number, string, sizeFits}
 use Rattle.base.specs.Error.{faultOf}
 use Rattle.base.specs.Small.{constTypeNumber, byteWidth}
-use Rattle.base.specs.Section.{partIn, startFrom}
-use Rattle.base.specs.declared.section.StartAnswer.{StartAnswer}
-use Rattle.constant_pool.specs.Lookups.{constantOver, keptOver, poolFrom}
+use Rattle.base.specs.Section.{partIn}
+use Rattle.constant_pool.specs.Entry.{headSize}
 use Rattle.constant_pool.specs.declared.Kept.{Kept}
 use Rattle.constant_pool.specs.declared.Kept.the-variants as kept
 use Rattle.constant_pool.specs.declared.ConstEntry.{ConstEntry}
@@ -39,7 +38,7 @@ use Rattle.constant_pool.specs.declared.I64Answer.the-variants as i64
 use Rattle.constant_pool.specs.declared.WidthAnswer.{WidthAnswer}
 use Rattle.constant_pool.specs.declared.WidthAnswer.the-variants as width
 
--- a constant; of a number the eight bytes, of a string the place in the file
+-- a constant: a number by its eight bytes, a string by its place in the file
 abbrev pub keptIn : Kept → format.Kept Place
 keptIn (kept.Number n) = number (bytesLe 8 n)
 keptIn (kept.Part p) = string (partIn p)
@@ -47,23 +46,20 @@ keptIn (kept.Part p) = string (partIn p)
 abbrev pub constIn : ConstEntry → Constant Place
 constIn c = record { kind = constTypeNumber (c .«const_type»); kept = keptIn (c .kept) }
 
--- a string ends at `most` or before it. Of what is answered this follows from the equation; it is said beside it for callers, who cut the string out
+-- a string ends at `most` or before. For an answer this follows from its equation; it is stated beside it for callers, who slice the file by it
 abbrev pub KeptEnds : ℕ → Kept → Type 0
 KeptEnds most (kept.Number n) = Unit {0}
 KeptEnds most (kept.Part p) = p .offset + p .size ≤ most
 
--- an entry by its type and its end, wherever the section starts in the file
-abbrev pub headFrom : ℕ → List ℕ → ℕ → HeadAnswer → Step (Constant Place)
-headFrom base s at (head.Refused e) = stops (faultOf e)
-headFrom base s at (head.Head t m) = item (record { kind = constTypeNumber t; kept = keptOver base s (constTypeNumber t) (at + 4) (m - (at + 4)) }) m
+-- an entry by its type and its end
+abbrev pub headFrom : HeadAnswer → Step ℕ
+headFrom (head.Refused e) = stops (faultOf e)
+headFrom (head.Head t m) = item (constTypeNumber t) m
 
-abbrev pub HeadAs : List ℕ → ℕ → HeadAnswer → Type 0
-HeadAs s at r = (base : ℕ) → headFrom base s at r ≡ stepAt (constantOver base s) s at
-
--- the bytes behind the head are as many as the type may have. This follows too, and is said for callers, who take them
+-- the type allows as many bytes as follow the head. This follows too; it is stated for callers, who take them
 abbrev pub HeadFits : ℕ → HeadAnswer → Type 0
 HeadFits at (head.Refused e) = Unit {0}
-HeadFits at (head.Head t m) = (at + 4 ≤ m) × (sizeFits (constTypeNumber t) (m - (at + 4)) ≡ true)
+HeadFits at (head.Head t m) = (at + headSize ≤ m) × (sizeFits (constTypeNumber t) (m - (at + headSize)) ≡ true)
 
 -- an entry read at a place
 abbrev pub stepFrom : ConstStep → Step (Constant Place)
@@ -73,10 +69,6 @@ stepFrom (step.Entry c m) = item (constIn c) m
 abbrev pub StepEnds : ℕ → ConstStep → Type 0
 StepEnds most (step.Refused e) = Unit {0}
 StepEnds most (step.Entry c m) = KeptEnds most (c .kept)
-
--- where the constants stand, wherever the section starts in the file
-abbrev pub TableAs : List ℕ → ℕ → StartAnswer → Type 0
-TableAs s k r = (base : ℕ) → startFrom r ≡ poolFrom base s k
 
 abbrev pub countFrom : CountAnswer → Got ℕ
 countFrom (count.Refused e) = refused (faultOf e)

@@ -9,7 +9,7 @@ use Rattle.format.specs.Parts.{Place, cut, byPlace}
 use Rattle.format.specs.Constants.{constant}
 use Rattle.constant_pool.specs.Lookups.{poolAt, startAt, nextConstantAt}
 
--- where the walk has a start `t`, the steps are those of the section's entries, and as many as `t` has give the constants
+-- if the walk starts at `t`, its steps are those over the section's entries, and as many steps as `t` counts give the constants
 pub record Walk (f : List ℕ) (p : Place) (t : Table) : Type 0 where
   pub steps : (u : Table) → nextConstantAt f p u ≡ stepOf (constant (byPlace p)) (cut f p) u
   pub gives : walked (t .count) (constant (byPlace p)) (cut f p) t ≡ poolAt f p

@@ -1,3 +1,5 @@
+pub mod Entry
+pub mod Picks
 pub mod Lookups
 pub mod Answers
 pub mod Laws

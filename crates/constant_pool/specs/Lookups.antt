@@ -1,24 +1,23 @@
--- What the section's reader and its lookups answer: over the section's bytes `s`, and over a file and the section's place `p` in it.
+-- What the section's reader, its lookups and its walks answer: over the section's bytes `s`, and over a file and the section's place `p` in it.
 use Prim.Native.Nat.{ℕ, _+_, _-_}
-use mathlib.Core.Bool.{cond}
 use mathlib.Core.List.{List}
-use lib.Dec.{eqb}
 use lib.IntN.{ℤ}
 use lib.ListN.{length}
 use Rattle.reading.specs.Reader.{Reader}
-use Rattle.reading.specs.Answer.{Got, refused, found, _>>=_, itemOf}
+use Rattle.reading.specs.Answer.{Got, found, _>>=_, itemOf}
 use Rattle.reading.specs.Places.{Next}
 use Rattle.reading.specs.Tables.{tableFrom}
 use Rattle.reading.specs.declared.Table.{Table}
-use Rattle.format.specs.Faults.{invalidConstantType}
 use Rattle.format.specs.Parts.{Place, part, byBytes, byPlace}
-use Rattle.format.specs.Constants.{Kept, number, string, Constant, keptOf, constant, constants, signed}
-use Rattle.format.specs.Lookups.{readAt, constantOf, numberOf, stringOf, charWidthOf}
+use Rattle.format.specs.Constants.{Kept, Constant, keptOf, constant, constants}
+use Rattle.format.specs.Lookups.{readAt, constantOf}
 use Rattle.base.specs.Section.{stepIn}
+use Rattle.constant_pool.specs.Entry.{entryType}
+use Rattle.constant_pool.specs.Picks.{i32Of, u32Of, i64Of, u64Of, f32Of, f64Of, stringPlaceOf, widthOf}
 
 -- Over the section's bytes
 
--- how many constants there are
+-- the number of constants
 abbrev pub poolCount : List ℕ → Got ℕ
 poolCount s = itemOf (constants byBytes s) >>= λ cs. found (length cs)
 
@@ -33,9 +32,9 @@ constantOver base s = constant (byPlace (placeOf base s))
 abbrev pub keptOver : ℕ → List ℕ → ℕ → ℕ → ℕ → Kept Place
 keptOver base s kind at size = keptOf (byPlace (placeOf base s)) kind (part at size s) (length s - (at + size))
 
--- where the constants from the index `k` on stand, if all of the section reads
-abbrev pub poolFrom : ℕ → List ℕ → ℕ → Got Table
-poolFrom base s k = itemOf (tableFrom (length s) k (constantOver base s) s)
+-- where the constants from index `k` on stand, if the whole section reads
+abbrev pub poolFrom : List ℕ → ℕ → Got Table
+poolFrom s k = itemOf (tableFrom (length s) k entryType s)
 
 -- the constant at an index
 abbrev pub constantIn : ℕ → List ℕ → ℕ → Got (Constant Place)
@@ -49,45 +48,35 @@ poolAt f p = readAt f p (constants (byPlace p))
 abbrev pub constantAt : List ℕ → Place → ℕ → Got (Constant Place)
 constantAt f p i = poolAt f p >>= constantOf i
 
--- the eight kept bytes of a constant of type `kind`
-abbrev pub bytesIn : ℕ → ℕ → Kept Place → Got (List ℕ)
-bytesIn kind stored (number b) = cond (eqb stored kind) (found b) (refused (invalidConstantType stored))
-bytesIn kind stored (string t) = refused (invalidConstantType stored)
-
-abbrev pub keptAt : List ℕ → Place → ℕ → ℕ → Got (List ℕ)
-keptAt f p kind i = constantAt f p i >>= λ c. bytesIn kind (c .kind) (c .kept)
-
--- the number that the first `width` of them are
-abbrev pub numberAt : List ℕ → Place → ℕ → ℕ → ℕ → Got ℕ
-numberAt f p kind width i = poolAt f p >>= numberOf kind width i
+-- The getters: what is picked from the constant at an index
 
 abbrev pub i32At : List ℕ → Place → ℕ → Got ℤ
-i32At f p i = poolAt f p >>= numberOf 0 4 i >>= λ n. found (signed 2147483648 n)
+i32At f p i = i32Of (constantAt f p i)
 
 abbrev pub u32At : List ℕ → Place → ℕ → Got ℕ
-u32At f p i = poolAt f p >>= numberOf 1 4 i
+u32At f p i = u32Of (constantAt f p i)
 
 abbrev pub i64At : List ℕ → Place → ℕ → Got ℤ
-i64At f p i = poolAt f p >>= numberOf 2 8 i >>= λ n. found (signed 9223372036854775808 n)
+i64At f p i = i64Of (constantAt f p i)
 
 abbrev pub u64At : List ℕ → Place → ℕ → Got ℕ
-u64At f p i = poolAt f p >>= numberOf 3 8 i
+u64At f p i = u64Of (constantAt f p i)
 
 abbrev pub f32At : List ℕ → Place → ℕ → Got ℕ
-f32At f p i = poolAt f p >>= numberOf 4 4 i
+f32At f p i = f32Of (constantAt f p i)
 
 abbrev pub f64At : List ℕ → Place → ℕ → Got ℕ
-f64At f p i = poolAt f p >>= numberOf 5 8 i
+f64At f p i = f64Of (constantAt f p i)
 
--- a string, by its place in the file
 abbrev pub stringAt : List ℕ → Place → ℕ → Got Place
-stringAt f p i = poolAt f p >>= stringOf i
+stringAt f p i = stringPlaceOf (constantAt f p i)
 
--- bytes to a character of a string
 abbrev pub charWidthAt : List ℕ → Place → ℕ → Got ℕ
-charWidthAt f p i = poolAt f p >>= charWidthOf i
+charWidthAt f p i = widthOf (constantAt f p i)
 
--- where a walk over the constants starts, behind the count, and one step of it
+-- Walks
+
+-- where a walk over the constants starts: after the count. Then one step of it
 abbrev pub startAt : List ℕ → Place → Got Table
 startAt f p = poolAt f p >>= λ cs. found (record { at = 2; count = length cs })
 

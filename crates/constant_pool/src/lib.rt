@@ -1,4 +1,5 @@
-// The constant pool of a container: read, looked up in and walked over, where it lies in the file.
+// The constant pool of a container: its reader, its lookups and walks over it, over the file's own bytes. A lookup finds the entry at an index; what a
+// getter answers is picked from that answer, by a function that needs neither the file nor the section.
 ghost use mathlib.Core.Path.{_≡_};
 ghost use mathlib.Core.Bool.{true};
 ghost use Prim.Native.Nat.{_+_, _^_, _≤_, _<_};
@@ -8,8 +9,10 @@ ghost use Rattle.reading.specs.Places.{stepAt, stepOf};
 ghost use Rattle.format.specs.Constants.{sizeFits, signed};
 ghost use Rattle.base.specs.Small.{constTypeNumber};
 ghost use Rattle.base.specs.Section.{placeIn, partFrom, PartWithin, startFrom, bytesOr};
-ghost use Rattle.constant_pool.specs.Answers.{keptIn, KeptEnds, HeadAs, HeadFits, stepFrom, StepEnds, TableAs, countFrom, constFrom, ConstEnds, constNextFrom, NextEnds, keptFrom, u32From, u64From, i32From, i64From, widthFrom};
-ghost use Rattle.constant_pool.specs.Lookups.{constantOver, keptOver, poolCount, constantIn, constantAt, keptAt, numberAt, i32At, u32At, i64At, u64At, f32At, f64At, stringAt, charWidthAt, startAt, nextConstantAt};
+ghost use Rattle.constant_pool.specs.Entry.{entryType};
+ghost use Rattle.constant_pool.specs.Answers.{keptIn, KeptEnds, headFrom, HeadFits, stepFrom, StepEnds, countFrom, constFrom, ConstEnds, constNextFrom, NextEnds, keptFrom, u32From, u64From, i32From, i64From, widthFrom};
+ghost use Rattle.constant_pool.specs.Lookups.{constantOver, keptOver, poolCount, poolFrom, constantIn, constantAt, i32At, u32At, i64At, u64At, f32At, f64At, stringAt, charWidthAt, startAt, nextConstantAt};
+ghost use Rattle.constant_pool.specs.Picks.{keptBytes, numberPicked, i32Of, u32Of, i64Of, u64Of, f32Of, f64Of, stringPlaceOf, widthOf};
 ghost use Rattle.constant_pool.specs.Laws.{Laws};
 use base::char_width::CharWidth;
 use base::const_type::ConstType;
@@ -22,6 +25,7 @@ use base::section::PartAnswer;
 use base::section::Section;
 use base::section::StartAnswer;
 use base::section::section_part;
+use lent::u64_bytes;
 use reading::Table;
 use reading::u8_at;
 use reading::u16_at;
@@ -33,9 +37,9 @@ const HEAD_SIZE: usize = 4;
 
 // What is kept of a constant.
 pub enum Kept {
-    // Of a number its eight bytes, low byte first.
+    // A number: its eight bytes, low byte first.
     Number(u64),
-    // Of a string its part of the file.
+    // A string: its part of the file.
     Part(Part),
 }
 
@@ -113,7 +117,7 @@ fn le_of(b: &[u8]) -> u64
     n
 }
 
-// The number of `size` bytes at the place `at`. Those of eight and of four bytes, the usual ones, need no loop.
+// The number of `size` bytes at the place `at`. The usual sizes, eight and four, need no loop.
 fn number_at(s: &[u8], at: usize, size: usize) -> u64
     requires { ⌜ (at + size ≤ length (now s)) × (size ≤ 8) ⌝ }
     ensures { λ r. ⌜ r ≡ leAt size (now (s .entry)) at ⌝ }
@@ -131,15 +135,7 @@ fn number_at(s: &[u8], at: usize, size: usize) -> u64
 pub fn number_bytes(n: u64) -> [u8; 8]
     ensures { λ r. ⌜ r ≡ bytesLe 8 n ⌝ }
 {
-    let mut b = [0u8; 8];
-    let mut left = n;
-    let mut i = 0;
-    while i < 8 {
-        b[i] = (left % 256) as u8;
-        left = left / 256;
-        i += 1;
-    }
-    b
+    u64_bytes(n)
 }
 
 // A number has at most eight bytes.
@@ -167,10 +163,10 @@ fn kept_at(s: &[u8], base: usize, at: usize, const_type: ConstType, size: usize)
     Kept::Number(number_at(s, at, size))
 }
 
-// The head of the entry at the place `at` of the section `s`, all of which is there.
+// The head of the entry at the place `at` of the section `s`; refused unless the whole entry is there.
 fn read_head(s: &[u8], at: usize) -> HeadAnswer
     requires { ⌜ at ≤ length (now s) ⌝ }
-    ensures { λ r. ⌜ HeadAs (now (s .entry)) at r × HeadFits at r ⌝ }
+    ensures { λ r. ⌜ (headFrom r ≡ stepAt entryType (now (s .entry)) at) × HeadFits at r ⌝ }
 {
     if s.len() - at < HEAD_SIZE {
         return HeadAnswer::Refused(ContainerError::ShortInput);
@@ -206,9 +202,9 @@ fn read_entry(s: &[u8], base: usize, at: usize) -> ConstStep
     }
 }
 
-// The entries of the section `s` from the index `k` on. All entries are read, and those from `k` on looked for on the way.
+// The entries of the section `s` from index `k` on. All entries are read; where entry `k` starts is noted on the way.
 fn table(s: &[u8], k: usize) -> StartAnswer
-    ensures { λ r. ⌜ TableAs (now (s .entry)) k r ⌝ }
+    ensures { λ r. ⌜ startFrom r ≡ poolFrom (now (s .entry)) k ⌝ }
 {
     if s.len() < 2 {
         return StartAnswer::Refused(ContainerError::ShortInput);
@@ -237,7 +233,7 @@ fn table(s: &[u8], k: usize) -> StartAnswer
     StartAnswer::Start(t)
 }
 
-// The section's reader: its refusal, or how many constants there are.
+// The section's reader: its refusal, or the number of constants.
 pub fn read_from(s: &[u8]) -> CountAnswer
     ensures { λ r. ⌜ countFrom r ≡ poolCount (now (s .entry)) ⌝ }
 {
@@ -272,7 +268,7 @@ fn next_in(s: &[u8], base: usize, t: Table) -> ConstNext
     }
 }
 
-// The constant at an index of the section `s`, which starts at `base` of the file: the first of those from the index on.
+// The constant at an index of the section `s`, which starts at `base` of the file: the first entry from the index on.
 fn find(s: &[u8], base: usize, index: ConstantIndex) -> ConstAnswer
     requires { ⌜ base + length (now s) < 2 ^ 64 ⌝ }
     ensures { λ r. ⌜ (constFrom r ≡ constantIn base (now (s .entry)) (index .0)) × ConstEnds (base + length (now (s .entry))) r ⌝ }
@@ -301,11 +297,13 @@ pub fn entry(file: &[u8], section: Section, index: ConstantIndex) -> ConstAnswer
     }
 }
 
-// The eight kept bytes of a constant of the type `expected`; another type is refused.
-fn kept_bytes(file: &[u8], section: Section, index: ConstantIndex, expected: ConstType) -> U64Answer
-    ensures { λ r. ⌜ keptFrom r ≡ keptAt (now (file .entry)) (placeIn section) (constTypeNumber expected) (index .0) ⌝ }
+// What a getter picks from the answer of a lookup, whichever way the entry was looked up.
+
+// The eight kept bytes of a constant of the type `expected`; any other type is refused.
+fn kept_bytes(answer: ConstAnswer, expected: ConstType) -> U64Answer
+    ensures { λ r. ⌜ keptFrom r ≡ keptBytes (constTypeNumber expected) (constFrom answer) ⌝ }
 {
-    match entry(file, section, index) {
+    match answer {
         ConstAnswer::Refused(e) => U64Answer::Refused(e),
         ConstAnswer::Entry(c) => {
             let const_type = c.const_type;
@@ -322,21 +320,21 @@ fn kept_bytes(file: &[u8], section: Section, index: ConstantIndex, expected: Con
     }
 }
 
-// The number that the first four kept bytes are.
-fn number32(file: &[u8], section: Section, index: ConstantIndex, expected: ConstType) -> U32Answer
-    ensures { λ r. ⌜ u32From r ≡ numberAt (now (file .entry)) (placeIn section) (constTypeNumber expected) 4 (index .0) ⌝ }
+// The number in the first four kept bytes.
+fn number32(answer: ConstAnswer, expected: ConstType) -> U32Answer
+    ensures { λ r. ⌜ u32From r ≡ numberPicked (constTypeNumber expected) 4 (constFrom answer) ⌝ }
 {
-    match kept_bytes(file, section, index, expected) {
+    match kept_bytes(answer, expected) {
         U64Answer::Refused(e) => U32Answer::Refused(e),
         U64Answer::Value(n) => U32Answer::Value((n % 4294967296) as u32),
     }
 }
 
-// The number that all eight are.
-fn number64(file: &[u8], section: Section, index: ConstantIndex, expected: ConstType) -> U64Answer
-    ensures { λ r. ⌜ u64From r ≡ numberAt (now (file .entry)) (placeIn section) (constTypeNumber expected) 8 (index .0) ⌝ }
+// The number in all eight.
+fn number64(answer: ConstAnswer, expected: ConstType) -> U64Answer
+    ensures { λ r. ⌜ u64From r ≡ numberPicked (constTypeNumber expected) 8 (constFrom answer) ⌝ }
 {
-    match kept_bytes(file, section, index, expected) {
+    match kept_bytes(answer, expected) {
         U64Answer::Refused(e) => U64Answer::Refused(e),
         U64Answer::Value(n) => U64Answer::Value(n),
     }
@@ -363,54 +361,55 @@ fn signed64(n: u64) -> i64
     -1 - (d as i64)
 }
 
-pub fn get_i32(file: &[u8], section: Section, index: ConstantIndex) -> I32Answer
-    ensures { λ r. ⌜ i32From r ≡ i32At (now (file .entry)) (placeIn section) (index .0) ⌝ }
+// A number constant; any other type is refused.
+pub fn i32_of(answer: ConstAnswer) -> I32Answer
+    ensures { λ r. ⌜ i32From r ≡ i32Of (constFrom answer) ⌝ }
 {
-    match number32(file, section, index, ConstType::I32) {
+    match number32(answer, ConstType::I32) {
         U32Answer::Refused(e) => I32Answer::Refused(e),
         U32Answer::Value(n) => I32Answer::Value(signed32(n)),
     }
 }
 
-pub fn get_u32(file: &[u8], section: Section, index: ConstantIndex) -> U32Answer
-    ensures { λ r. ⌜ u32From r ≡ u32At (now (file .entry)) (placeIn section) (index .0) ⌝ }
+pub fn u32_of(answer: ConstAnswer) -> U32Answer
+    ensures { λ r. ⌜ u32From r ≡ u32Of (constFrom answer) ⌝ }
 {
-    number32(file, section, index, ConstType::U32)
+    number32(answer, ConstType::U32)
 }
 
-pub fn get_i64(file: &[u8], section: Section, index: ConstantIndex) -> I64Answer
-    ensures { λ r. ⌜ i64From r ≡ i64At (now (file .entry)) (placeIn section) (index .0) ⌝ }
+pub fn i64_of(answer: ConstAnswer) -> I64Answer
+    ensures { λ r. ⌜ i64From r ≡ i64Of (constFrom answer) ⌝ }
 {
-    match number64(file, section, index, ConstType::I64) {
+    match number64(answer, ConstType::I64) {
         U64Answer::Refused(e) => I64Answer::Refused(e),
         U64Answer::Value(n) => I64Answer::Value(signed64(n)),
     }
 }
 
-pub fn get_u64(file: &[u8], section: Section, index: ConstantIndex) -> U64Answer
-    ensures { λ r. ⌜ u64From r ≡ u64At (now (file .entry)) (placeIn section) (index .0) ⌝ }
+pub fn u64_of(answer: ConstAnswer) -> U64Answer
+    ensures { λ r. ⌜ u64From r ≡ u64Of (constFrom answer) ⌝ }
 {
-    number64(file, section, index, ConstType::U64)
+    number64(answer, ConstType::U64)
 }
 
 // The bits of a float.
-pub fn get_f32(file: &[u8], section: Section, index: ConstantIndex) -> U32Answer
-    ensures { λ r. ⌜ u32From r ≡ f32At (now (file .entry)) (placeIn section) (index .0) ⌝ }
+pub fn f32_of(answer: ConstAnswer) -> U32Answer
+    ensures { λ r. ⌜ u32From r ≡ f32Of (constFrom answer) ⌝ }
 {
-    number32(file, section, index, ConstType::F32)
+    number32(answer, ConstType::F32)
 }
 
-pub fn get_f64(file: &[u8], section: Section, index: ConstantIndex) -> U64Answer
-    ensures { λ r. ⌜ u64From r ≡ f64At (now (file .entry)) (placeIn section) (index .0) ⌝ }
+pub fn f64_of(answer: ConstAnswer) -> U64Answer
+    ensures { λ r. ⌜ u64From r ≡ f64Of (constFrom answer) ⌝ }
 {
-    number64(file, section, index, ConstType::F64)
+    number64(answer, ConstType::F64)
 }
 
 // A string, Str or WStr, by its part of the file.
-pub fn string_part(file: &[u8], section: Section, index: ConstantIndex) -> PartAnswer
-    ensures { λ r. ⌜ (partFrom r ≡ stringAt (now (file .entry)) (placeIn section) (index .0)) × PartWithin (now (file .entry)) r ⌝ }
+pub fn string_of(answer: ConstAnswer) -> PartAnswer
+    ensures { λ r. ⌜ partFrom r ≡ stringPlaceOf (constFrom answer) ⌝ }
 {
-    match entry(file, section, index) {
+    match answer {
         ConstAnswer::Refused(e) => PartAnswer::Refused(e),
         ConstAnswer::Entry(c) => {
             let const_type = c.const_type;
@@ -425,7 +424,69 @@ pub fn string_part(file: &[u8], section: Section, index: ConstantIndex) -> PartA
     }
 }
 
-// A string: that part of the file, and an empty part where `string_part` refuses.
+// Bytes per character of a string.
+pub fn width_of(answer: ConstAnswer) -> WidthAnswer
+    ensures { λ r. ⌜ widthFrom r ≡ widthOf (constFrom answer) ⌝ }
+{
+    match answer {
+        ConstAnswer::Refused(e) => WidthAnswer::Refused(e),
+        ConstAnswer::Entry(c) => {
+            let const_type = c.const_type;
+            match const_type.char_width() {
+                MaybeCharWidth::None => {
+                    WidthAnswer::Refused(ContainerError::InvalidConstantType(const_type.number()))
+                }
+                MaybeCharWidth::Some(w) => WidthAnswer::Width(w),
+            }
+        }
+    }
+}
+
+// The getters: what is picked from the entry at an index.
+
+pub fn get_i32(file: &[u8], section: Section, index: ConstantIndex) -> I32Answer
+    ensures { λ r. ⌜ i32From r ≡ i32At (now (file .entry)) (placeIn section) (index .0) ⌝ }
+{
+    i32_of(entry(file, section, index))
+}
+
+pub fn get_u32(file: &[u8], section: Section, index: ConstantIndex) -> U32Answer
+    ensures { λ r. ⌜ u32From r ≡ u32At (now (file .entry)) (placeIn section) (index .0) ⌝ }
+{
+    u32_of(entry(file, section, index))
+}
+
+pub fn get_i64(file: &[u8], section: Section, index: ConstantIndex) -> I64Answer
+    ensures { λ r. ⌜ i64From r ≡ i64At (now (file .entry)) (placeIn section) (index .0) ⌝ }
+{
+    i64_of(entry(file, section, index))
+}
+
+pub fn get_u64(file: &[u8], section: Section, index: ConstantIndex) -> U64Answer
+    ensures { λ r. ⌜ u64From r ≡ u64At (now (file .entry)) (placeIn section) (index .0) ⌝ }
+{
+    u64_of(entry(file, section, index))
+}
+
+pub fn get_f32(file: &[u8], section: Section, index: ConstantIndex) -> U32Answer
+    ensures { λ r. ⌜ u32From r ≡ f32At (now (file .entry)) (placeIn section) (index .0) ⌝ }
+{
+    f32_of(entry(file, section, index))
+}
+
+pub fn get_f64(file: &[u8], section: Section, index: ConstantIndex) -> U64Answer
+    ensures { λ r. ⌜ u64From r ≡ f64At (now (file .entry)) (placeIn section) (index .0) ⌝ }
+{
+    f64_of(entry(file, section, index))
+}
+
+pub fn string_part(file: &[u8], section: Section, index: ConstantIndex) -> PartAnswer
+    ensures { λ r. ⌜ (partFrom r ≡ stringAt (now (file .entry)) (placeIn section) (index .0)) × PartWithin (now (file .entry)) r ⌝ }
+{
+    string_of(entry(file, section, index))
+}
+
+// A string: that part of the file, or an empty part where `string_part` refuses.
 pub fn get_str(file: &[u8], section: Section, index: ConstantIndex) -> &[u8]
     ensures { λ r. ⌜ now r ≡ bytesOr (now (file .entry)) (stringAt (now (file .entry)) (placeIn section) (index .0)) ⌝ }
 {
@@ -439,22 +500,10 @@ pub fn get_str(file: &[u8], section: Section, index: ConstantIndex) -> &[u8]
     }
 }
 
-// Bytes to a character of a string.
 pub fn char_width(file: &[u8], section: Section, index: ConstantIndex) -> WidthAnswer
     ensures { λ r. ⌜ widthFrom r ≡ charWidthAt (now (file .entry)) (placeIn section) (index .0) ⌝ }
 {
-    match entry(file, section, index) {
-        ConstAnswer::Refused(e) => WidthAnswer::Refused(e),
-        ConstAnswer::Entry(c) => {
-            let const_type = c.const_type;
-            match const_type.char_width() {
-                MaybeCharWidth::None => {
-                    WidthAnswer::Refused(ContainerError::InvalidConstantType(const_type.number()))
-                }
-                MaybeCharWidth::Some(w) => WidthAnswer::Width(w),
-            }
-        }
-    }
+    width_of(entry(file, section, index))
 }
 
 // Where a walk over the constants starts.
@@ -485,7 +534,7 @@ pub fn next_constant(file: &[u8], section: Section, t: Table) -> ConstNext
     }
 }
 
-// The claims of `specs/Laws.antt` hold. There is no code: the contract makes the check prove them.
+// The claims of `specs/Laws.antt` hold. Empty body: the contract makes the checker prove them.
 pub fn laws_hold()
     ensures { λ _. ⌜ Laws ⌝ }
 {}

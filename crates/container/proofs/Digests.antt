@@ -1,4 +1,4 @@
--- The digests of `specs/Examples`, by computing.
+-- The digests of `specs/Examples`, by computation.
 use mathlib.Core.Path.{_≡_, refl}
 use mathlib.Core.List.{List, _∷_, _++_}
 use Prim.Native.Nat.{ℕ}

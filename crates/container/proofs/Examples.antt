@@ -1,4 +1,4 @@
--- The files of `specs/Examples` are as said there, by computing; of BLAKE3 their digests are known.
+-- The claims of `specs/Examples` hold, by computation; of BLAKE3 only the files' digests are used.
 use Prim.Native.Nat.{ℕ}
 use mathlib.Core.Path.{_≡_, refl}
 use mathlib.Core.List.{List}
@@ -20,7 +20,7 @@ use Rattle.format.specs.Load.{load, readIn, hasTypes, typesFound, debugOf, debu
 use Rattle.format.specs.Lookups.{readAt, debugAt, debugIn}
 use Rattle.format.specs.RunSide.{placed, SameRunSide}
 use Rattle.format.specs.Examples.{tinyWith, pasteLimit, lineAt, lastLine}
-use Rattle.format.proofs.Examples.{inside, the-found, sections, first-half-speaks, types-premise-needed, empty-code-place-needed, second-half-speaks}
+use Rattle.format.proofs.Examples.{inside, the-found, sections, first-half-not-vacuous, types-premise-needed, empty-code-place-needed, second-half-not-vacuous}
 use Rattle.reading.specs.Answer.{found}
 use lib.IntN.{pos}
 use Rattle.blake3.specs.Blake3.{blake3}
@@ -98,8 +98,8 @@ examples =
       hashed-run = hashed-run blake3 digests;
       hashed-debug = hashed-debug blake3 digests;
       hash-decides = hash-decides blake3 digests;
-      first-half-speaks = first-half-speaks blake3;
+      first-half-not-vacuous = first-half-not-vacuous blake3;
       types-premise-needed = types-premise-needed blake3;
       empty-code-place-needed = empty-code-place-needed blake3;
-      second-half-speaks = second-half-speaks blake3;
+      second-half-not-vacuous = second-half-not-vacuous blake3;
     }

@@ -31,7 +31,7 @@ loaded h t u cs k debug = record { header = h; tasks = t; types = u; constants =
 abbrev read : Code → Got (Unit {0})
 read k = found tt
 
--- the sections one behind the other, by their tables and by what these count
+-- the sections one after another, by their tables and by the tables' counts
 alike : (h : Header) (debug : Option (Tables (List ℕ))) (x : Got TaskTable) (y : Got (Option TypeTables)) (z : Got (List (Constant (List ℕ)))) (w : Got Code)
     → _≡_ {A = Got Container}
     ((x >>= λ t. y >>= λ u. z >>= λ cs. w >>= λ k. found (loaded h t u cs k debug)) >>= λ l. found (recordOf l))

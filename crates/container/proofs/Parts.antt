@@ -1,32 +1,45 @@
--- Types and debug of a file within the limit, by what the section's part of the file is.
+-- Types of a file within the limit, and debug of any file, by what the section's part of the file is.
 use mathlib.Core.Path.{_≡_, refl, sym, ap, _∙_}
 use mathlib.Core.Bool.{Bool, true, false, _&&_, cond}
 use mathlib.Core.List.{List}
 use mathlib.Core.Option.{Option, none, some}
 use native.Mathlib.Omega.{arith}
-use Prim.Native.Nat.{ℕ, _≤_}
-use lib.Dec.{ltb}
+use Prim.Native.Nat.{ℕ, _≤_, _<_}
+use lib.Dec.{leb, ltb}
 use lib.ListN.{length}
-use borrow.Author.Tests.{le-leb, lt-ltb, le-ltb}
+use borrow.Author.Tests.{leb-true, le-leb, lt-ltb, le-ltb}
 use Rattle.reading.specs.Fault.{Fault}
+use Rattle.reading.specs.Reader.{Read, fault, got}
 use Rattle.reading.specs.Answer.{Got, refused, found, _>>=_, _>>_, need, itemOf}
-use Rattle.format.specs.Faults.{sectionSizeMismatch}
+use Rattle.format.specs.Faults.{tooLong, sectionSizeMismatch}
 use Rattle.format.specs.Parts.{limit, hashLimit, Place, cut, isInside}
 use Rattle.format.specs.Header.{Header, typesFlag}
 use Rattle.format.specs.Types.{TypeTables, typeTables}
-use Rattle.format.specs.Load.{hasTypes, typesFound, debugOf, debugHashRight, debugFound}
-use Rattle.format.specs.Record.{TypeCounts, DebugCounts, typeCounts, debugCounts}
+use Rattle.format.specs.Debug.{Tables}
+use Rattle.format.specs.Load.{hasTypes, typesFound, debugFound, DebugState, empty, outside, hashDiffers, unreadable, read, stateOfRead, debugState, debugKept}
+use Rattle.format.specs.Record.{TypeCounts, DebugCounts, typeCounts, tableCounts, debugCounts, stateCounts}
 use Rattle.format.proofs.Answers.{never, same-found}
 use Rattle.format.proofs.Places.{length-cut, inside-is}
+use Rattle.format.proofs.DebugStates.{debug-states}
 use Rattle.base.specs.Section.{sectionPart}
 use Rattle.base.proofs.FileLookups.{sliced, slice-is}
 use Rattle.blake3.specs.Blake3.{blake3}
 use Rattle.integrity.proofs.Laws.{laws}
 use Rattle.type_section.specs.Lookups.{typeCountsOfSection}
-use Rattle.container.specs.Sections.{typeCountsAt, typeCountsOf, debugCountsOfSection}
+use Rattle.integrity.specs.Hashes.{debugFits}
+use Rattle.container.specs.Sections.{typeCountsAt, typeCountsOf, sectionState, debugStateOf}
 
 abbrev counted : TypeTables → Got TypeCounts
 counted t = found (record { fbTypes = length (t .fbTypes); arrays = length (t .arrays); userFbs = length (t .userFbs) })
+
+-- a section has a part only of a file within the limit
+part-within : (f : List ℕ) (p : Place) {q : Place} → found q ≡ sectionPart f p → length f ≤ limit
+unfolding sectionPart
+part-within f p {q} h = go (leb (length f) limit) refl h
+  where
+    go : (b : Bool) → leb (length f) limit ≡ b → found q ≡ (need b tooLong >> need (isInside f p) sectionSizeMismatch >> found p) → length f ≤ limit
+    go true i k = leb-true _ _ i
+    go false i k = never (sym k)
 
 -- the part of a file within the limit that a section is, or none
 module _ (f : List ℕ) (p : Place) (l : length f ≤ limit) where
@@ -96,26 +109,62 @@ module _ (f : List ℕ) (h : Header) where
       go true (found t) = refl
       go false y = refl
 
-  -- debug
-  pub debug-unsized : h .directory .debug .size ≡ 0 → none ≡ debugCounts (debugFound blake3 f h)
-  unfolding debugFound
-  debug-unsized z = rw (le-ltb 0 (h .directory .debug .size) (omega arith))
+-- Debug: the state of a section by its reader, and what loading keeps of a state
+pub state-fault : {e : Fault} (x : Read (Tables (List ℕ))) → refused e ≡ (itemOf x >>= λ t. found (tableCounts t)) → unreadable e ≡ stateCounts (stateOfRead x)
+state-fault (fault d) k = cc
+state-fault (got t rest) k = never k
 
-  pub debug-outside : {e : Fault} → length f ≤ limit → refused e ≡ sectionPart f (h .directory .debug) → none ≡ debugCounts (debugFound blake3 f h)
-  unfolding debugFound
-  debug-outside l k = rw (part-outside f (h .directory .debug) l k) (go (ltb 0 (h .directory .debug .size)))
+pub state-counted : {c : DebugCounts} (x : Read (Tables (List ℕ))) → found c ≡ (itemOf x >>= λ t. found (tableCounts t)) → read c ≡ stateCounts (stateOfRead x)
+state-counted (fault d) k = never (sym k)
+state-counted (got t rest) k = ap read (same-found k)
+
+kept-counts : (s : DebugState (Tables (List ℕ))) → debugKept (stateCounts s) ≡ debugCounts (debugKept s)
+kept-counts empty = refl
+kept-counts outside = refl
+kept-counts hashDiffers = refl
+kept-counts (unreadable e) = refl
+kept-counts (read t) = refl
+
+-- over any file
+module _ (f : List ℕ) (h : Header) where
+  pub debug-empty : h .directory .debug .size ≡ 0 → empty ≡ debugStateOf f h
+  unfolding debugStateOf
+  debug-empty z = rw (debug-states blake3 f h .size-zero z, le-ltb 0 (h .directory .debug .size) (omega arith)) (go (leb (length f) limit))
     where
-      go : (b : Bool) → none ≡ debugCounts (cond (b && false && debugHashRight blake3 f h) (debugOf (cut f (h .directory .debug))) none)
+      go : (b : Bool) → _≡_ {A = DebugState DebugCounts} empty (cond b empty empty)
       go true = refl
       go false = refl
 
-  pub debug-there : {q : Place} {x : Option DebugCounts} → length f ≤ limit → (h .directory .debug .size ≡ 0 → ⊥) → found q ≡ sectionPart f (h .directory .debug)
-      → x ≡ debugCountsOfSection (h .debugHash) (sliced f q) → x ≡ debugCounts (debugFound blake3 f h)
-  unfolding debugFound
-  debug-there {q} l n k e =
+  pub debug-outside : {e : Fault} → (h .directory .debug .size ≡ 0 → ⊥) → refused e ≡ sectionPart f (h .directory .debug) → outside ≡ debugStateOf f h
+  unfolding debugStateOf sectionPart
+  debug-outside {e} n k =
+      let s : 0 < h .directory .debug .size = omega arith in
+      rw (lt-ltb 0 (h .directory .debug .size) s) (go (leb (length f) limit) (isInside f (h .directory .debug)) (debug-states blake3 f h .not-inside s) k)
+    where
+      go : (b i : Bool) → (i ≡ false → debugState blake3 f h ≡ outside) → refused e ≡ (need b tooLong >> need i sectionSizeMismatch >> found (h .directory .debug))
+          → outside ≡ cond b (stateCounts (debugState blake3 f h)) outside
+      go true true d k = never k
+      go true false d k = sym (ap stateCounts (d refl))
+      go false i d k = refl
+
+  pub debug-inside : {q : Place} {x : DebugState DebugCounts} → (h .directory .debug .size ≡ 0 → ⊥) → found q ≡ sectionPart f (h .directory .debug)
+      → x ≡ sectionState (h .debugHash) (sliced f q) → x ≡ debugStateOf f h
+  unfolding debugStateOf
+  debug-inside {q} {x} n k e =
       let p = h .directory .debug in
+      let l = part-within f p k in
       let s = part-inside f p l k in
       let a = length-cut f p (s .inside) in
       let b = inside-is f p (s .inside) .within in
       let w : length (cut f p) ≤ hashLimit = omega arith in
-      rw (lt-ltb 0 (p .size) (omega arith), s .inside, ← laws .debug (h .debugHash) (cut f p) w) (e ∙ ap (debugCountsOfSection (h .debugHash)) (s .bytes))
+      rw (le-leb _ _ l) (e ∙ ap (sectionState (h .debugHash)) (s .bytes) ∙ go (debugFits (h .debugHash) (cut f p)) (laws .debug (h .debugHash) (cut f p) w) (debug-states blake3 f h .hash-unequal (omega arith) (s .inside)) (debug-states blake3 f h .section-decides (omega arith) (s .inside)))
+    where
+      go : (b : Bool) {c : Bool} {x : DebugState (Tables (List ℕ))} → b ≡ c → (c ≡ false → debugState blake3 f h ≡ hashDiffers) → (c ≡ true → debugState blake3 f h ≡ x)
+          → cond b (stateCounts x) hashDiffers ≡ stateCounts (debugState blake3 f h)
+      go true i d r = sym (ap stateCounts (r (sym i)))
+      go false i d r = sym (ap stateCounts (d (sym i)))
+
+  -- what loading keeps of it
+  pub debug-kept : {x : DebugState DebugCounts} → length f ≤ limit → x ≡ debugStateOf f h → debugKept x ≡ debugCounts (debugFound blake3 f h)
+  unfolding debugStateOf
+  debug-kept l e = ap debugKept (rw (le-leb _ _ l) at e) ∙ kept-counts (debugState blake3 f h) ∙ ap debugCounts (debug-states blake3 f h .kept)

@@ -1,4 +1,4 @@
--- What shows that both halves speak of some files, BLAKE3 being the hash: format's examples, and the mill file M of document 01 with hashes.
+-- Neither half of demand 3 is vacuous, BLAKE3 being the hash: format's examples, and the mill file M of document 01 with hashes.
 use Prim.Native.Nat.{ℕ}
 use mathlib.Core.Path.{_≡_}
 use mathlib.Core.Bool.{false}
@@ -11,7 +11,7 @@ use Rattle.format.specs.Integrity.{noHash}
 use Rattle.format.specs.Load.{Loaded, load}
 use Rattle.format.specs.RunSide.{SameRunSide}
 use Rattle.format.specs.UnknownTables.{TablesAdded}
-use Rattle.format.specs.Examples.{pair, header, tasks, types, constants, codeWith, lines, linesMore, tinyWith, hashed, pasteLimit, lineAt, lastLine, FirstHalfSpeaks, TypesPremiseNeeded, EmptyCodePlaceNeeded, SecondHalfSpeaks}
+use Rattle.format.specs.Examples.{pair, header, tasks, types, constants, codeWith, lines, linesMore, tinyWith, hashed, pasteLimit, lineAt, lastLine, FirstHalfNotVacuous, TypesPremiseNeeded, EmptyCodePlaceNeeded, SecondHalfNotVacuous}
 use Rattle.blake3.specs.Blake3.{blake3}
 
 -- M's content hash, and the hashes of its debug section and of the one with an unknown table
@@ -48,20 +48,20 @@ hashedMill = millHashed linesDigest lines
 abbrev pub hashedMillMore : List ℕ
 hashedMillMore = millHashed linesMoreDigest linesMore
 
--- the same content without debug, its sections in another order behind three other bytes, with some debug hash
+-- the same content without debug, its sections in another order after three other bytes, with some debug hash
 abbrev pub hashedStripped : List ℕ
 hashedStripped =
     header 4 contentDigest (replicate 32 7) (pair 296 16 ++ pair 312 54 ++ pair 280 16 ++ pair 259 21 ++ pair 0 0) 1
     ++ 1 ∷ 2 ∷ 3 ∷ codeWith 0 ++ constants ++ types ++ tasks
 
--- hashed files of which the first half speaks
+-- hashed files that meet the first half's premises
 pub record HashedRun (hash : List ℕ → List ℕ) : Type 0 where
   pub checked : noHash contentDigest ≡ false
   pub premises : SameRunSide hashedMill hashedStripped
   pub first-answer : pasteLimit hash hashedMill ≡ found (pos 270)
   pub second-answer : pasteLimit hash hashedStripped ≡ found (pos 270)
 
--- hashed files of which the second half speaks
+-- hashed files that meet the second half's premises
 pub record HashedDebug (hash : List ℕ → List ℕ) : Type 0 where
   pub checked : (noHash linesDigest ≡ false) × (noHash linesMoreDigest ≡ false)
   pub first : Loaded
@@ -81,7 +81,7 @@ pub record Examples : Type 0 where
   pub hashed-run : HashedRun blake3
   pub hashed-debug : HashedDebug blake3
   pub hash-decides : HashDecides blake3
-  pub first-half-speaks : FirstHalfSpeaks blake3
+  pub first-half-not-vacuous : FirstHalfNotVacuous blake3
   pub types-premise-needed : TypesPremiseNeeded blake3
   pub empty-code-place-needed : EmptyCodePlaceNeeded blake3
-  pub second-half-speaks : SecondHalfSpeaks blake3
+  pub second-half-not-vacuous : SecondHalfNotVacuous blake3

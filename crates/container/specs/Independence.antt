@@ -10,8 +10,8 @@ use Rattle.format.specs.RunSide.{SameRunSide, runOf, runRecordOf}
 use Rattle.format.specs.UnknownTables.{TablesAdded, SameDebug, SameDebugRecords}
 use Rattle.blake3.specs.Blake3.{blake3}
 
--- First half. Both files load and run the same, or both are refused with the same number and values: by what is answered, and by the tables
--- that it is answered from
+-- First half. Both files load and run the same, or both are refused with the same number and values: by the answers, and by the tables
+-- that these come from
 pub record RunAlike (f g : List ℕ) : Type 0 where
   pub answers : (readFrom blake3 f >>= λ r. found (runRecordOf f r)) ≡ (readFrom blake3 g >>= λ s. found (runRecordOf g s))
   pub tables : (load blake3 f >>= λ a. found (runOf f a)) ≡ (load blake3 g >>= λ b. found (runOf g b))

@@ -1,9 +1,10 @@
--- On the way to a container: the sections at their places, each by its counts alone.
+-- On the way to a container: the sections at their places, each only by its counts.
 use Prim.Native.Nat.{ℕ, _≤_}
 use mathlib.Core.Bool.{cond}
 use mathlib.Core.List.{List}
 use mathlib.Core.Option.{Option, none, some}
 use mathlib.Core.Path.{_≡_}
+use lib.Dec.{leb}
 use lib.ListN.{length}
 use Rattle.reading.specs.Answer.{Got, found, _>>=_, itemOf}
 use Rattle.format.specs.Parts.{limit, Place, cut, isInside, byBytes}
@@ -13,8 +14,9 @@ use Rattle.format.specs.Tasks.{taskTable}
 use Rattle.format.specs.Types.{typeTables}
 use Rattle.format.specs.Constants.{constants}
 use Rattle.format.specs.Code.{codeOf}
-use Rattle.format.specs.Load.{typesFound, debugOf, debugFound}
-use Rattle.format.specs.Record.{TaskCounts, TypeCounts, DebugCounts, Container, taskCounts, typeCounts, debugCounts}
+use Rattle.format.specs.Debug.{debugTables}
+use Rattle.format.specs.Load.{typesFound, debugSized, debugFound, DebugState, empty, outside, hashDiffers, stateOfRead, debugState}
+use Rattle.format.specs.Record.{TaskCounts, TypeCounts, DebugCounts, Container, taskCounts, typeCounts, debugCounts, stateCounts}
 use Rattle.format.specs.Lookups.{readAt}
 use Rattle.blake3.specs.Blake3.{blake3}
 use Rattle.integrity.specs.Hashes.{debugFits}
@@ -42,9 +44,14 @@ typeCountsAt f p = cond (isInside f p) (itemOf (typeTables (cut f p)) >>= λ t. 
 abbrev pub typeCountsOf : List ℕ → Header → Got (Option TypeCounts)
 typeCountsOf f h = typesFound f h >>= λ t. found (typeCounts t)
 
--- a debug section of the bytes `s`: its counts where its hash fits and it reads
-abbrev pub debugCountsOfSection : List ℕ → List ℕ → Option DebugCounts
-debugCountsOfSection d s = debugCounts (cond (debugFits d s) (debugOf s) none)
+-- a debug section of the bytes `s`, by its hash and its reader
+abbrev pub sectionState : List ℕ → List ℕ → DebugState DebugCounts
+sectionState d s = cond (debugFits d s) (stateCounts (stateOfRead (debugTables byBytes s))) hashDiffers
+
+-- What `debug_state` answers over any file and header: the state of the debug section, BLAKE3 being the hash, by its counts. In a file over the limit,
+-- which loading refuses before it comes to debug, no section counts as inside
+unfoldable pub debugStateOf : List ℕ → Header → DebugState DebugCounts
+debugStateOf f h = cond (leb (length f) limit) (stateCounts (debugState blake3 f h)) (cond (debugSized h) outside empty)
 
 -- the record of an accepted file
 abbrev pub recordFrom : List ℕ → Header → Got Container

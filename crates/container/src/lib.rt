@@ -4,7 +4,7 @@ ghost use Prim.Native.Nat.{_≤_};
 ghost use lib.ListN.{length};
 ghost use Rattle.format.specs.Parts.{limit};
 ghost use Rattle.format.specs.Load.{debugFound};
-ghost use Rattle.format.specs.Record.{debugCounts, readFrom};
+ghost use Rattle.format.specs.Record.{debugCounts, readFrom, programRead};
 ghost use Rattle.base.specs.Digest.{digestBytes};
 ghost use Rattle.base.specs.Section.{placeIn, checkedFrom};
 ghost use Rattle.blake3.specs.Blake3.{blake3};
@@ -12,12 +12,13 @@ ghost use Rattle.header.specs.Answers.{headerIn};
 ghost use Rattle.task_table.specs.Answers.{taskCountsFrom};
 ghost use Rattle.constant_pool.specs.Answers.{countFrom};
 ghost use Rattle.debug_tables.specs.Answers.{maybeDebug};
-ghost use Rattle.container.specs.Answers.{containerFrom, typesReadFrom};
-ghost use Rattle.container.specs.Sections.{Accepted, taskCountsAt, typeCountsAt, typeCountsOf, constantCountAt, codeReadsAt, debugCountsOfSection};
+ghost use Rattle.container.specs.Answers.{containerFrom, typesReadFrom, debugStateIn};
+ghost use Rattle.container.specs.Sections.{Accepted, taskCountsAt, typeCountsAt, typeCountsOf, constantCountAt, codeReadsAt, sectionState, debugStateOf};
 ghost use Rattle.container.specs.Independence.{SameRun, DebugAlike};
 ghost use Rattle.container.specs.Examples.{Examples};
 use base::section::section_part;
 use constant_pool::CountAnswer;
+use debug_tables::DebugCountsAnswer;
 use header::HeaderAnswer;
 use header::from_bytes;
 use header::has_types;
@@ -26,7 +27,7 @@ use integrity::debug_hash_matches;
 use task_table::TaskTableAnswer;
 use type_section::TypesAnswer;
 
-// What a program needs beside `read_from`: records, entries, answers, identifiers, the steps of walks, which start at the record, and BLAKE3 of any bytes.
+// What a program needs besides `read_from`: records, entries, answers, identifiers, the steps of walks, which start at the record, and BLAKE3 of any bytes.
 pub use base::char_width::CharWidth;
 pub use base::char_width::CharWidthAnswer;
 pub use base::const_type::ConstType;
@@ -50,6 +51,7 @@ pub use base::id_types::TaskId;
 pub use base::id_types::VarIndex;
 pub use base::section::Checked;
 pub use base::section::FILE_LIMIT;
+pub use base::section::PROGRAM_LIMIT;
 pub use base::section::Part;
 pub use base::section::PartAnswer;
 pub use base::section::Section;
@@ -73,27 +75,28 @@ pub use constant_pool::U64Answer;
 pub use constant_pool::WidthAnswer;
 pub use constant_pool::next_constant;
 pub use constant_pool::number_bytes;
-pub use debug_entries::enum_defs::EnumDefEntry;
-pub use debug_entries::func_names::FuncNameEntry;
+pub use debug_entries::enumerations::EnumerationEntry;
+pub use debug_entries::function_names::FunctionNameEntry;
 pub use debug_entries::iec_type_tag;
 pub use debug_entries::source_files::SourceFileEntry;
 pub use debug_entries::string_layouts::StringLayoutEntry;
-pub use debug_entries::var_names::VarNameEntry;
 pub use debug_entries::var_section;
+pub use debug_entries::variables::VariableEntry;
 pub use debug_section::EnumerationAnswer;
 pub use debug_section::FunctionNameAnswer;
-pub use debug_section::LayoutAnswer;
-pub use debug_section::SourceAnswer;
+pub use debug_section::SourceFileAnswer;
 pub use debug_section::StartsAnswer;
+pub use debug_section::StringLayoutAnswer;
 pub use debug_section::ValueAnswer;
 pub use debug_section::VariableAnswer;
 pub use debug_tables::DebugCounts;
 pub use debug_tables::DebugTables;
 pub use debug_tables::MaybeDebug;
+pub use debug_text::DebugFault;
 pub use debug_walks::EnumerationNext;
 pub use debug_walks::FunctionNameNext;
-pub use debug_walks::LayoutNext;
-pub use debug_walks::SourceNext;
+pub use debug_walks::SourceFileNext;
+pub use debug_walks::StringLayoutNext;
 pub use debug_walks::ValueNext;
 pub use debug_walks::VariableNext;
 pub use debug_walks::next_enumeration;
@@ -144,6 +147,20 @@ pub use type_section::next_user_fb;
 pub enum ContainerAnswer {
     Refused(ContainerError),
     Container(Container),
+}
+
+// The state of a file's debug section, by document 01's tests in its order; the container loads with debug only in the last.
+pub enum DebugState {
+    // Its size is 0.
+    Empty,
+    // It does not lie in the file behind the header, or the file is over the limit.
+    Outside,
+    // The header's debug hash is neither zero nor the section's.
+    HashDiffers,
+    // Why it does not read.
+    Unreadable(DebugFault),
+    // How many entries its tables in force have.
+    Read(DebugCounts),
 }
 
 // The type section's refusal, or its counts where there is one.
@@ -224,32 +241,48 @@ fn types_of(file: &[u8], header: FileHeader) -> TypesRead
     TypesRead::Types(MaybeTypes::None)
 }
 
-// A debug section, where its hash fits and it reads.
-fn debug_in(section: &[u8], debug_hash: Digest) -> MaybeDebug
-    ensures { λ r. ⌜ maybeDebug r ≡ debugCountsOfSection (digestBytes «debug_hash») (now (section .entry)) ⌝ }
+// The state of a debug section that lies in the file behind the header: by its hash, then by its reader.
+fn section_state(section: &[u8], debug_hash: Digest) -> DebugState
+    ensures { λ r. ⌜ debugStateIn r ≡ sectionState (digestBytes «debug_hash») (now (section .entry)) ⌝ }
 {
     if debug_hash_matches(debug_hash, section) {
-        return debug_tables::read_from(section);
+        return match debug_tables::read_from(section) {
+            DebugCountsAnswer::Fault(e) => DebugState::Unreadable(e),
+            DebugCountsAnswer::Counts(c) => DebugState::Read(c),
+        };
     }
-    MaybeDebug::None
+    DebugState::HashDiffers
 }
 
-// Debug is read if its size is above 0; the flag is not asked.
+// The state of a file's debug section: size, place, hash, then what its reader answers. The flag is not asked.
+pub fn debug_state(file: &[u8], header: FileHeader) -> DebugState
+    ensures { λ r. ⌜ debugStateIn r ≡ debugStateOf (now (file .entry)) (headerIn header) ⌝ }
+{
+    let debug = header.sections.debug_section;
+    if debug.size == 0 {
+        return DebugState::Empty;
+    }
+    match section_part(file, debug) {
+        PartAnswer::Refused(_) => DebugState::Outside,
+        PartAnswer::Part(p) => {
+            let offset = p.offset;
+            let size = p.size;
+            section_state(&file[offset..offset + size], header.debug_hash)
+        }
+    }
+}
+
+// What loading keeps of the debug section.
 fn debug_of(file: &[u8], header: FileHeader) -> MaybeDebug
     requires { ⌜ length (now file) ≤ limit ⌝ }
     ensures { λ r. ⌜ maybeDebug r ≡ debugCounts (debugFound blake3 (now (file .entry)) (headerIn header)) ⌝ }
 {
-    let debug = header.sections.debug_section;
-    if debug.size == 0 {
-        return MaybeDebug::None;
-    }
-    match section_part(file, debug) {
-        PartAnswer::Refused(_) => MaybeDebug::None,
-        PartAnswer::Part(p) => {
-            let offset = p.offset;
-            let size = p.size;
-            debug_in(&file[offset..offset + size], header.debug_hash)
-        }
+    match debug_state(file, header) {
+        DebugState::Empty => MaybeDebug::None,
+        DebugState::Outside => MaybeDebug::None,
+        DebugState::HashDiffers => MaybeDebug::None,
+        DebugState::Unreadable(_) => MaybeDebug::None,
+        DebugState::Read(c) => MaybeDebug::Some(c),
     }
 }
 
@@ -308,7 +341,17 @@ pub fn read_from(file: &[u8]) -> ContainerAnswer
     }
 }
 
-// Demand 3, for any two files. There is no code: each contract makes the check prove a half of it.
+// The same for a program: 10 for a file above the programs' limit, before any other fault, and else what the library answers.
+pub fn read_for_program(file: &[u8]) -> ContainerAnswer
+    ensures { λ r. ⌜ containerFrom r ≡ programRead blake3 (now (file .entry)) ⌝ }
+{
+    if file.len() > PROGRAM_LIMIT {
+        return ContainerAnswer::Refused(ContainerError::TooLong);
+    }
+    read_from(file)
+}
+
+// Demand 3, for any two files. Empty bodies: each contract makes the checker prove a half of it.
 pub fn same_run(f: &[u8], g: &[u8])
     ensures { λ _. ⌜ SameRun (now (f .entry)) (now (g .entry)) ⌝ }
 {}
@@ -317,7 +360,7 @@ pub fn same_debug(f: &[u8], g: &[u8])
     ensures { λ _. ⌜ DebugAlike (now (f .entry)) (now (g .entry)) ⌝ }
 {}
 
-// Both halves speak of some files.
+// Neither half is vacuous.
 pub fn examples_hold()
     ensures { λ _. ⌜ Examples ⌝ }
 {}

@@ -1,4 +1,4 @@
--- Each entry at a place of the section: what each test of the code says of it. Numbers are given as the code has read them.
+-- Each entry at a place of the section: what each test of the code says of it. Numbers are as the code read them.
 use mathlib.Core.Path.{_≡_, refl}
 use mathlib.Core.List.{List}
 use Prim.Native.Nat.{ℕ, _+_, _-_, _≤_, _<_}
@@ -20,7 +20,7 @@ use Rattle.debug_text.specs.Answers.{keepIn}
 use Rattle.debug_text.proofs.Texts.{name-needs, path-needs, name-ends, stays-name, stays-path}
 use Rattle.reading.proofs.Made.{goes-made}
 use Rattle.debug_text.proofs.Walks.{onStep, reads-stop, reads-on}
-use Rattle.debug_entries.specs.Answers.{EnumerationEntry, entryOf, enumerationEntry}
+use Rattle.debug_entries.specs.Answers.{EnumerationWithValues, entryOf, enumerationEntry}
 
 -- What an entry needs to be there
 
@@ -98,7 +98,7 @@ module _ (s : List ℕ) (at : ℕ) where
 
 -- The others, with what stands for a name or a path
 
--- what of a variable stands behind its name
+-- what follows a variable's name
 abbrev typeNamed : {T : Type 0} → Keep T → ℕ → ℕ → ℕ → ℕ → T → Reader (Variable T)
 typeNamed keep i f c t x = name keep >>= λ y. give (record { index = i; function = f; section = c; typeTag = t; named = x; typeName = y })
 
@@ -108,7 +108,7 @@ module _ {T : Type 0} (keep : Keep T) (s : List ℕ) (at : ℕ) where
   unfolding functionName
   func-read id h i e g = reads-on (functionName keep) s at (name keep) (at + 2) _ (rw (number-at 2 s at (at + 2) refl h, i)) e g
 
-  -- a source file's path, and the hash behind it
+  -- a source file's path, then its hash
   pub file-stop : (f : Fault) {v : Step T} → v ≡ stops f → Reads (path keep) s at v → sourceFile keep (drop at s) ≡ fault f
   unfolding sourceFile
   file-stop f e g = rw (reads-told (path keep) s at e g)
@@ -122,7 +122,7 @@ module _ {T : Type 0} (keep : Keep T) (s : List ℕ) (at : ℕ) where
     unfolding sourceFile
     file-read hash h i = rw (reads-told (path keep) s at e g .1, bytes-at 32 s p (p + 32) refl h, i)
 
-  -- a variable's numbers, and the two names behind them
+  -- a variable's numbers, then its two names
   module _ (i f c t : ℕ) (h : at + 6 ≤ length s) (pi : i ≡ leAt 2 s at) (pf : f ≡ leAt 2 s (at + 2)) (pc : c ≡ leAt 1 s (at + 4)) (pt : t ≡ leAt 1 s (at + 5)) where
     var-at : variable keep (drop at s) ≡ next (name keep (drop (at + 6) s)) (typeNamed keep i f c t)
     unfolding variable
@@ -150,7 +150,7 @@ module _ (base : ℕ) (s : List ℕ) (at : ℕ) where
   abbrev named : Reader Place
   named = name (keepIn base s)
 
-  abbrev entries : Reader EnumerationEntry
+  abbrev entries : Reader EnumerationWithValues
   entries = enumerationEntry base (keepIn base s)
 
   pub enum-stop : (f : Fault) {v : Step Place} → v ≡ stops f → Reads named s at v → entries (drop at s) ≡ fault f
@@ -167,7 +167,7 @@ module _ (base : ℕ) (s : List ℕ) (at : ℕ) where
       unfolding enumeration
       enum-fault f k = rw (reads-told named s at e g .1, counted-as named s p n h i, k)
 
-      -- the values' names stand behind the name and the count
+      -- the values' names follow the name and the count
       pub enum-read : (m : ℕ) → Goes (many n named) s (p + 2) (onTo m)
           → Reads entries s at (item (record { head = record { named = x; valueCount = n }; values = record { at = p + 2; count = n } }) m)
       unfolding enumeration

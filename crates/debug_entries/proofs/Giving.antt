@@ -7,7 +7,7 @@ use Prim.Native.Nat.{ℕ, zero, suc, _-_}
 use native.Mathlib.Omega.{arith}
 use lib.Dec.{eqb, ltb}
 use lib.ListN.{length, drop, length-drop}
-use Rattle.utf8.specs.Utf8.{goodLength, utf8}
+use Rattle.utf8.specs.Utf8.{validUpTo, utf8}
 use Rattle.reading.specs.Fault.{badText}
 use Rattle.reading.specs.Reader.{Read, fault, got, Reader, next, _>>=_, give, check, bytes, number, many, counted}
 use Rattle.reading.specs.Answer.{refused, found, itemOf, indexed}
@@ -74,9 +74,9 @@ module _ (whole : List ℕ) where
           leaves = λ x p t w e.
               let b = both (bytes n x) e in
               let u = b .item in
-              let c = both (check (utf8 u) (badText (length x - goodLength u)) (b .middle)) (b .second) in
+              let c = both (check (utf8 u) (badText (length x - validUpTo u)) (b .middle)) (b .second) in
               let m = stays-local whole (local-bytes n) .leaves x u (b .middle) w (b .first) in
-              let v = stays-local whole (local-check (utf8 u) (badText (length x - goodLength u))) .leaves (b .middle) (c .item) (c .middle) m (c .first) in
+              let v = stays-local whole (local-check (utf8 u) (badText (length x - validUpTo u))) .leaves (b .middle) (c .item) (c .middle) m (c .first) in
               let i = fixed-width (fixed-bytes n) .takes x u (b .middle) (b .first) .1 in
               let l = bytes-length n x u (b .middle) (b .first) in
               let d = ap length (w .is) ∙ length-drop (w .behind) whole in
@@ -117,7 +117,7 @@ module _ (whole : List ℕ) where
     unfolding enumeration
     gives-names = gives-bind gives-name λ n p. gives-bind (gives-bind (gives-number 2) (λ k u. gives-many k gives-name)) λ vs ps. gives-give NamesLie _ (p, ps)
 
-    -- and those of its values stand behind its name and their count
+    -- and those of its values follow its name and their count
     values-stand : (x : List ℕ) (e : Enumeration Place) (t : List ℕ) → LeftOf whole x → enumeration (keepIn base whole) x ≡ got e t
         → Holds (name (keepIn base whole)) whole (entryOf base e .values) (e .values)
     unfolding enumeration

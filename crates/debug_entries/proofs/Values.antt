@@ -11,7 +11,7 @@ use Rattle.format.proofs.Answers.{same-found, steps, refused-then}
 use Rattle.debug_text.specs.Answers.{keepIn}
 use Rattle.debug_text.specs.Picked.{picked}
 use Rattle.debug_text.proofs.Walks.{picked-is, picked-made}
-use Rattle.debug_entries.specs.Answers.{EnumerationEntry, entryOf, enumerationEntry}
+use Rattle.debug_entries.specs.Answers.{EnumerationWithValues, entryOf, enumerationEntry}
 use Rattle.debug_entries.specs.Lookups.{pickedValue}
 use Rattle.debug_entries.proofs.Giving.{laws}
 
@@ -25,12 +25,12 @@ module _ (base : ℕ) (s : List ℕ) (at n k j : ℕ) where
   pub value-refused : (f : Fault) → refused f ≡ picked (enumerationEntry base (keepIn base s)) s at n k → refused f ≡ pickedValue (keepIn base s) s at n k j
   value-refused f h = refused-then picks (entryOf base) (λ e. indexed noEntry (e .values) j) f (h ∙ made-of)
 
-  pub value-found : (x : EnumerationEntry) → found x ≡ picked (enumerationEntry base (keepIn base s)) s at n k
+  pub value-found : (x : EnumerationWithValues) → found x ≡ picked (enumerationEntry base (keepIn base s)) s at n k
       → picked (name (keepIn base s)) s (x .values .at) (x .values .count) j ≡ pickedValue (keepIn base s) s at n k j
   value-found x h =
       let g = steps picks (sym (h ∙ made-of)) in
       let e = g .item in
       let v = laws .enumerations base s .found-is at n k e (g .first) .2 in
-      ap (λ (y : EnumerationEntry). picked (name (keepIn base s)) s (y .values .at) (y .values .count) j) (sym (same-found (g .second)))
+      ap (λ (y : EnumerationWithValues). picked (name (keepIn base s)) s (y .values .at) (y .values .count) j) (sym (same-found (g .second)))
       ∙ picked-is (name (keepIn base s)) s (entryOf base e .values .at) (entryOf base e .values .count) j (e .values) (v .rest) (v .reads)
       ∙ sym (ap (λ (y : Got (Enumeration Place)). y >>= λ d. indexed noEntry (d .values) j) (g .first))

@@ -12,46 +12,46 @@ use Rattle.format.specs.Lookups.{EnumerationHead}
 use Rattle.base.specs.Digest.{digestBytes}
 use Rattle.base.specs.Section.{partIn}
 use Rattle.debug_text.specs.Answers.{debugFaultOf}
-use Rattle.debug_entries.specs.declared.var_names.VarNameEntry.{VarNameEntry}
-use Rattle.debug_entries.specs.declared.var_names.VarNameStep.{VarNameStep}
-use Rattle.debug_entries.specs.declared.var_names.VarNameStep.the-variants as stepVar
-use Rattle.debug_entries.specs.declared.var_names.VarNameAnswer.{VarNameAnswer}
-use Rattle.debug_entries.specs.declared.var_names.VarNameAnswer.the-variants as answerVar
-use Rattle.debug_entries.specs.declared.var_names.VarNameNext.{VarNameNext}
-use Rattle.debug_entries.specs.declared.var_names.VarNameNext.the-variants as nextVar
-use Rattle.debug_entries.specs.declared.func_names.FuncNameEntry.{FuncNameEntry}
-use Rattle.debug_entries.specs.declared.func_names.FuncNameStep.{FuncNameStep}
-use Rattle.debug_entries.specs.declared.func_names.FuncNameStep.the-variants as stepFunc
-use Rattle.debug_entries.specs.declared.func_names.FuncNameAnswer.{FuncNameAnswer}
-use Rattle.debug_entries.specs.declared.func_names.FuncNameAnswer.the-variants as answerFunc
-use Rattle.debug_entries.specs.declared.func_names.FuncNameNext.{FuncNameNext}
-use Rattle.debug_entries.specs.declared.func_names.FuncNameNext.the-variants as nextFunc
+use Rattle.debug_entries.specs.declared.variables.VariableEntry.{VariableEntry}
+use Rattle.debug_entries.specs.declared.variables.VariableStep.{VariableStep}
+use Rattle.debug_entries.specs.declared.variables.VariableStep.the-variants as stepVariable
+use Rattle.debug_entries.specs.declared.variables.VariableFound.{VariableFound}
+use Rattle.debug_entries.specs.declared.variables.VariableFound.the-variants as foundVariable
+use Rattle.debug_entries.specs.declared.variables.VariableWalk.{VariableWalk}
+use Rattle.debug_entries.specs.declared.variables.VariableWalk.the-variants as walkVariable
+use Rattle.debug_entries.specs.declared.function_names.FunctionNameEntry.{FunctionNameEntry}
+use Rattle.debug_entries.specs.declared.function_names.FunctionNameStep.{FunctionNameStep}
+use Rattle.debug_entries.specs.declared.function_names.FunctionNameStep.the-variants as stepFunctionName
+use Rattle.debug_entries.specs.declared.function_names.FunctionNameFound.{FunctionNameFound}
+use Rattle.debug_entries.specs.declared.function_names.FunctionNameFound.the-variants as foundFunctionName
+use Rattle.debug_entries.specs.declared.function_names.FunctionNameWalk.{FunctionNameWalk}
+use Rattle.debug_entries.specs.declared.function_names.FunctionNameWalk.the-variants as walkFunctionName
 use Rattle.debug_entries.specs.declared.string_layouts.StringLayoutEntry.{StringLayoutEntry}
 use Rattle.debug_entries.specs.declared.string_layouts.StringLayoutStep.{StringLayoutStep}
 use Rattle.debug_entries.specs.declared.string_layouts.StringLayoutStep.the-variants as stepLayout
-use Rattle.debug_entries.specs.declared.string_layouts.StringLayoutAnswer.{StringLayoutAnswer}
-use Rattle.debug_entries.specs.declared.string_layouts.StringLayoutAnswer.the-variants as answerLayout
-use Rattle.debug_entries.specs.declared.string_layouts.StringLayoutNext.{StringLayoutNext}
-use Rattle.debug_entries.specs.declared.string_layouts.StringLayoutNext.the-variants as nextLayout
+use Rattle.debug_entries.specs.declared.string_layouts.StringLayoutFound.{StringLayoutFound}
+use Rattle.debug_entries.specs.declared.string_layouts.StringLayoutFound.the-variants as foundLayout
+use Rattle.debug_entries.specs.declared.string_layouts.StringLayoutWalk.{StringLayoutWalk}
+use Rattle.debug_entries.specs.declared.string_layouts.StringLayoutWalk.the-variants as walkLayout
 use Rattle.debug_entries.specs.declared.source_files.SourceFileEntry.{SourceFileEntry}
 use Rattle.debug_entries.specs.declared.source_files.SourceFileStep.{SourceFileStep}
 use Rattle.debug_entries.specs.declared.source_files.SourceFileStep.the-variants as stepFile
-use Rattle.debug_entries.specs.declared.source_files.SourceFileAnswer.{SourceFileAnswer}
-use Rattle.debug_entries.specs.declared.source_files.SourceFileAnswer.the-variants as answerFile
-use Rattle.debug_entries.specs.declared.source_files.SourceFileNext.{SourceFileNext}
-use Rattle.debug_entries.specs.declared.source_files.SourceFileNext.the-variants as nextFile
-use Rattle.debug_entries.specs.declared.enum_defs.EnumDefEntry.{EnumDefEntry}
-use Rattle.debug_entries.specs.declared.enum_defs.EnumDefStep.{EnumDefStep}
-use Rattle.debug_entries.specs.declared.enum_defs.EnumDefStep.the-variants as stepEnum
-use Rattle.debug_entries.specs.declared.enum_defs.EnumDefAnswer.{EnumDefAnswer}
-use Rattle.debug_entries.specs.declared.enum_defs.EnumDefAnswer.the-variants as answerEnum
-use Rattle.debug_entries.specs.declared.enum_defs.EnumDefNext.{EnumDefNext}
-use Rattle.debug_entries.specs.declared.enum_defs.EnumDefNext.the-variants as nextEnum
+use Rattle.debug_entries.specs.declared.source_files.SourceFileFound.{SourceFileFound}
+use Rattle.debug_entries.specs.declared.source_files.SourceFileFound.the-variants as foundFile
+use Rattle.debug_entries.specs.declared.source_files.SourceFileWalk.{SourceFileWalk}
+use Rattle.debug_entries.specs.declared.source_files.SourceFileWalk.the-variants as walkFile
+use Rattle.debug_entries.specs.declared.enumerations.EnumerationEntry.{EnumerationEntry}
+use Rattle.debug_entries.specs.declared.enumerations.EnumerationStep.{EnumerationStep}
+use Rattle.debug_entries.specs.declared.enumerations.EnumerationStep.the-variants as stepEnumeration
+use Rattle.debug_entries.specs.declared.enumerations.EnumerationFound.{EnumerationFound}
+use Rattle.debug_entries.specs.declared.enumerations.EnumerationFound.the-variants as foundEnumeration
+use Rattle.debug_entries.specs.declared.enumerations.EnumerationWalk.{EnumerationWalk}
+use Rattle.debug_entries.specs.declared.enumerations.EnumerationWalk.the-variants as walkEnumeration
 
 -- Variables
 
-abbrev pub varNameIn : VarNameEntry → Variable Place
-varNameIn v =
+abbrev pub variableIn : VariableEntry → Variable Place
+variableIn v =
     record {
       index = v .«var_index» .0;
       function = v .«function_id» .0;
@@ -61,38 +61,38 @@ varNameIn v =
       typeName = partIn (v .«type_name»);
     }
 
-abbrev pub varNameStep : VarNameStep → Step (Variable Place)
-varNameStep (stepVar.Fault e) = stops (debugFaultOf e)
-varNameStep (stepVar.Entry v m) = item (varNameIn v) m
+abbrev pub variableStep : VariableStep → Step (Variable Place)
+variableStep (stepVariable.Fault e) = stops (debugFaultOf e)
+variableStep (stepVariable.Entry v m) = item (variableIn v) m
 
-abbrev pub varNameFrom : VarNameAnswer → Got (Variable Place)
-varNameFrom (answerVar.Fault e) = refused (debugFaultOf e)
-varNameFrom answerVar.NoEntry = refused noEntry
-varNameFrom (answerVar.Entry v) = found (varNameIn v)
+abbrev pub variableFound : VariableFound → Got (Variable Place)
+variableFound (foundVariable.Fault e) = refused (debugFaultOf e)
+variableFound foundVariable.NoEntry = refused noEntry
+variableFound (foundVariable.Entry v) = found (variableIn v)
 
-abbrev pub varNameNext : VarNameNext → Next (Variable Place)
-varNameNext nextVar.End = ends
-varNameNext (nextVar.Fault e) = faulty (debugFaultOf e)
-varNameNext (nextVar.Entry v t) = entry (varNameIn v) t
+abbrev pub variableWalk : VariableWalk → Next (Variable Place)
+variableWalk walkVariable.End = ends
+variableWalk (walkVariable.Fault e) = faulty (debugFaultOf e)
+variableWalk (walkVariable.Entry v t) = entry (variableIn v) t
 
--- Functions
+-- Function names
 
-abbrev pub funcNameIn : FuncNameEntry → FunctionName Place
-funcNameIn v = record { id = v .«function_id» .0; named = partIn (v .name) }
+abbrev pub functionNameIn : FunctionNameEntry → FunctionName Place
+functionNameIn v = record { id = v .«function_id» .0; named = partIn (v .name) }
 
-abbrev pub funcNameStep : FuncNameStep → Step (FunctionName Place)
-funcNameStep (stepFunc.Fault e) = stops (debugFaultOf e)
-funcNameStep (stepFunc.Entry v m) = item (funcNameIn v) m
+abbrev pub functionNameStep : FunctionNameStep → Step (FunctionName Place)
+functionNameStep (stepFunctionName.Fault e) = stops (debugFaultOf e)
+functionNameStep (stepFunctionName.Entry v m) = item (functionNameIn v) m
 
-abbrev pub funcNameFrom : FuncNameAnswer → Got (FunctionName Place)
-funcNameFrom (answerFunc.Fault e) = refused (debugFaultOf e)
-funcNameFrom answerFunc.NoEntry = refused noEntry
-funcNameFrom (answerFunc.Entry v) = found (funcNameIn v)
+abbrev pub functionNameFound : FunctionNameFound → Got (FunctionName Place)
+functionNameFound (foundFunctionName.Fault e) = refused (debugFaultOf e)
+functionNameFound foundFunctionName.NoEntry = refused noEntry
+functionNameFound (foundFunctionName.Entry v) = found (functionNameIn v)
 
-abbrev pub funcNameNext : FuncNameNext → Next (FunctionName Place)
-funcNameNext nextFunc.End = ends
-funcNameNext (nextFunc.Fault e) = faulty (debugFaultOf e)
-funcNameNext (nextFunc.Entry v t) = entry (funcNameIn v) t
+abbrev pub functionNameWalk : FunctionNameWalk → Next (FunctionName Place)
+functionNameWalk walkFunctionName.End = ends
+functionNameWalk (walkFunctionName.Fault e) = faulty (debugFaultOf e)
+functionNameWalk (walkFunctionName.Entry v t) = entry (functionNameIn v) t
 
 -- String layouts
 
@@ -108,15 +108,15 @@ abbrev pub stringLayoutStep : StringLayoutStep → Step StringLayout
 stringLayoutStep (stepLayout.Fault e) = stops (debugFaultOf e)
 stringLayoutStep (stepLayout.Entry v m) = item (stringLayoutIn v) m
 
-abbrev pub stringLayoutFrom : StringLayoutAnswer → Got StringLayout
-stringLayoutFrom (answerLayout.Fault e) = refused (debugFaultOf e)
-stringLayoutFrom answerLayout.NoEntry = refused noEntry
-stringLayoutFrom (answerLayout.Entry v) = found (stringLayoutIn v)
+abbrev pub stringLayoutFound : StringLayoutFound → Got StringLayout
+stringLayoutFound (foundLayout.Fault e) = refused (debugFaultOf e)
+stringLayoutFound foundLayout.NoEntry = refused noEntry
+stringLayoutFound (foundLayout.Entry v) = found (stringLayoutIn v)
 
-abbrev pub stringLayoutNext : StringLayoutNext → Next StringLayout
-stringLayoutNext nextLayout.End = ends
-stringLayoutNext (nextLayout.Fault e) = faulty (debugFaultOf e)
-stringLayoutNext (nextLayout.Entry v t) = entry (stringLayoutIn v) t
+abbrev pub stringLayoutWalk : StringLayoutWalk → Next StringLayout
+stringLayoutWalk walkLayout.End = ends
+stringLayoutWalk (walkLayout.Fault e) = faulty (debugFaultOf e)
+stringLayoutWalk (walkLayout.Entry v t) = entry (stringLayoutIn v) t
 
 -- Source files
 
@@ -127,48 +127,49 @@ abbrev pub sourceFileStep : SourceFileStep → Step (SourceFile Place)
 sourceFileStep (stepFile.Fault e) = stops (debugFaultOf e)
 sourceFileStep (stepFile.Entry v m) = item (sourceFileIn v) m
 
-abbrev pub sourceFileFrom : SourceFileAnswer → Got (SourceFile Place)
-sourceFileFrom (answerFile.Fault e) = refused (debugFaultOf e)
-sourceFileFrom answerFile.NoEntry = refused noEntry
-sourceFileFrom (answerFile.Entry v) = found (sourceFileIn v)
+abbrev pub sourceFileFound : SourceFileFound → Got (SourceFile Place)
+sourceFileFound (foundFile.Fault e) = refused (debugFaultOf e)
+sourceFileFound foundFile.NoEntry = refused noEntry
+sourceFileFound (foundFile.Entry v) = found (sourceFileIn v)
 
-abbrev pub sourceFileNext : SourceFileNext → Next (SourceFile Place)
-sourceFileNext nextFile.End = ends
-sourceFileNext (nextFile.Fault e) = faulty (debugFaultOf e)
-sourceFileNext (nextFile.Entry v t) = entry (sourceFileIn v) t
+abbrev pub sourceFileWalk : SourceFileWalk → Next (SourceFile Place)
+sourceFileWalk walkFile.End = ends
+sourceFileWalk (walkFile.Fault e) = faulty (debugFaultOf e)
+sourceFileWalk (walkFile.Entry v t) = entry (sourceFileIn v) t
 
--- Enumerations: an answer has the head, which is the name and how many values there are, and the table of the values' names
+-- Enumerations: an answer has the head, which is the name and the number of values, and the table of the values' names
 
-pub record EnumerationEntry : Type 0 where
+pub record EnumerationWithValues : Type 0 where
   pub head : EnumerationHead Place
   pub values : Table
 
--- the values' names stand behind the enumeration's name and a count of two bytes, in a section at `base` of the file
-abbrev pub withValues : ℕ → EnumerationHead Place → EnumerationEntry
+-- the values' names follow the enumeration's name and a count of two bytes (document 01: "9 enumerations (name, value count 2, names)"), in a section
+-- at `base` of the file
+abbrev pub withValues : ℕ → EnumerationHead Place → EnumerationWithValues
 withValues base h = record { head = h; values = record { at = h .named .offset + h .named .size + 2 - base; count = h .valueCount } }
 
-abbrev pub entryOf : ℕ → Enumeration Place → EnumerationEntry
+abbrev pub entryOf : ℕ → Enumeration Place → EnumerationWithValues
 entryOf base e = withValues base (record { named = e .named; valueCount = length (e .values) })
 
--- an enumeration read for that
-abbrev pub enumerationEntry : ℕ → Keep Place → Reader EnumerationEntry
+-- the reader of an enumeration, for such an answer
+abbrev pub enumerationEntry : ℕ → Keep Place → Reader EnumerationWithValues
 enumerationEntry base keep = do
   e ← enumeration keep
   give (entryOf base e)
 
-abbrev pub enumDefIn : EnumDefEntry → EnumerationEntry
-enumDefIn v = record { head = record { named = partIn (v .«type_name»); valueCount = v .values .count }; values = v .values }
+abbrev pub enumerationIn : EnumerationEntry → EnumerationWithValues
+enumerationIn v = record { head = record { named = partIn (v .«type_name»); valueCount = v .values .count }; values = v .values }
 
-abbrev pub enumDefStep : EnumDefStep → Step EnumerationEntry
-enumDefStep (stepEnum.Fault e) = stops (debugFaultOf e)
-enumDefStep (stepEnum.Entry v m) = item (enumDefIn v) m
+abbrev pub enumerationStep : EnumerationStep → Step EnumerationWithValues
+enumerationStep (stepEnumeration.Fault e) = stops (debugFaultOf e)
+enumerationStep (stepEnumeration.Entry v m) = item (enumerationIn v) m
 
-abbrev pub enumDefFrom : EnumDefAnswer → Got EnumerationEntry
-enumDefFrom (answerEnum.Fault e) = refused (debugFaultOf e)
-enumDefFrom answerEnum.NoEntry = refused noEntry
-enumDefFrom (answerEnum.Entry v) = found (enumDefIn v)
+abbrev pub enumerationFound : EnumerationFound → Got EnumerationWithValues
+enumerationFound (foundEnumeration.Fault e) = refused (debugFaultOf e)
+enumerationFound foundEnumeration.NoEntry = refused noEntry
+enumerationFound (foundEnumeration.Entry v) = found (enumerationIn v)
 
-abbrev pub enumDefNext : EnumDefNext → Next EnumerationEntry
-enumDefNext nextEnum.End = ends
-enumDefNext (nextEnum.Fault e) = faulty (debugFaultOf e)
-enumDefNext (nextEnum.Entry v t) = entry (enumDefIn v) t
+abbrev pub enumerationWalk : EnumerationWalk → Next EnumerationWithValues
+enumerationWalk walkEnumeration.End = ends
+enumerationWalk (walkEnumeration.Fault e) = faulty (debugFaultOf e)
+enumerationWalk (walkEnumeration.Entry v t) = entry (enumerationIn v) t

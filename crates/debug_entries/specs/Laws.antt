@@ -1,5 +1,5 @@
--- What is claimed of every table of the section `s` at `base`: a walk over it, step by step, gives what reading it gives; where it reads, a lookup
--- in it is indexing into its entries; and the names and paths that a lookup or a step gives lie in the section.
+-- The claims on every table of the section `s` at `base`: a walk over it, step by step, gives what reading it gives; where it reads, a lookup in it
+-- is indexing into its entries; and the names and paths that a lookup or a step gives lie in the section.
 use Prim.Native.Nat.{ℕ, _+_, _≤_}
 use mathlib.Core.Path.{_≡_}
 use mathlib.Core.List.{List}
@@ -20,7 +20,7 @@ pub record Lies (base : ℕ) (s : List ℕ) (p : Place) : Type 0 where
   pub starts : base ≤ p .offset
   pub ends : p .offset + p .size ≤ base + length s
 
--- a table of entries of which each that is given is `P`
+-- a table of entries; each entry that is given is `P`
 pub record Walkable {A : Type 0} (P : A → Type 0) (r : Reader A) (s : List ℕ) : Type 0 where
   pub walk : (t : Table) → walked (t .count) r s t ≡ itemOf (leftOf r s t)
   pub lookup : (t : Table) (k : ℕ) (xs : List A) (rest : List ℕ) → leftOf r s t ≡ got xs rest → picked r s (t .at) (t .count) k ≡ indexed noEntry xs k

@@ -1,4 +1,4 @@
--- A lookup in the table of enumerations that goes on to the table of its values.
+-- A lookup in the table of enumerations that continues in the table of an enumeration's values.
 use Prim.Native.Nat.{ℕ}
 use mathlib.Core.List.{List}
 use Rattle.reading.specs.Answer.{Got, _>>=_, indexed}

@@ -48,11 +48,11 @@ pub const LTOD: u8 = 22;
 pub const DATE_AND_TIME: u8 = 23;
 
 pub const LDT: u8 = 24;
-// Of a structure, an array and a function block instance the slot holds an offset into the data region.
+// For a structure, an array and a function block instance the slot holds an offset into the data region.
 pub const STRUCT: u8 = 25;
 
 pub const ARRAY: u8 = 26;
 
 pub const FB_INSTANCE: u8 = 27;
-// Anything else; the type's name says what the compiler knew.
+// Any other type; the type name says which.
 pub const OTHER: u8 = 255;

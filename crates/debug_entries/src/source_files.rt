@@ -1,4 +1,4 @@
-// Source files: a path, and a hash of 32 bytes.
+// Source files: a path and a 32-byte hash.
 use base::digest::Digest;
 use base::digest::digest_at;
 use base::section::Part;
@@ -15,7 +15,7 @@ ghost use Rattle.reading.specs.Places.{stepAt, wayAt, stepOf};
 ghost use Rattle.format.specs.Debug.{sourceFile};
 ghost use Rattle.debug_text.specs.Answers.{InFile, keepIn, wayOf};
 ghost use Rattle.debug_text.specs.Picked.{picked};
-ghost use Rattle.debug_entries.specs.Answers.{sourceFileStep, sourceFileFrom, sourceFileNext};
+ghost use Rattle.debug_entries.specs.Answers.{sourceFileStep, sourceFileFound, sourceFileWalk};
 
 pub const SOURCE_FILE_HASH_LEN: usize = 32;
 
@@ -24,21 +24,21 @@ pub struct SourceFileEntry {
     pub content_hash: Digest,
 }
 
-// An entry, and the place behind it.
+// An entry, and the place after it.
 pub enum SourceFileStep {
     Fault(DebugFault),
     Entry(SourceFileEntry, usize),
 }
 
-// An entry that is looked up; `NoEntry` where the table has none at the index.
-pub enum SourceFileAnswer {
+// The entry that a lookup finds; `NoEntry` if the table has none at the index.
+pub enum SourceFileFound {
     Fault(DebugFault),
     NoEntry,
     Entry(SourceFileEntry),
 }
 
 // One step of a walk.
-pub enum SourceFileNext {
+pub enum SourceFileWalk {
     End,
     Fault(DebugFault),
     Entry(SourceFileEntry, Table),
@@ -64,7 +64,7 @@ pub fn read_source_file(s: &[u8], base: usize, at: usize) -> SourceFileStep
     }
 }
 
-// A walk over the `n` entries from `at` on.
+// Skips the `n` entries from `at` on.
 pub fn skip_source_files(s: &[u8], base: usize, at: usize, n: usize) -> DebugWalk
     requires { ⌜ (at ≤ length (now s)) × InFile base (now s) ⌝ }
     ensures { λ r. ⌜ wayOf r ≡ wayAt (many n (sourceFile (keepIn base (now (s .entry))))) (now (s .entry)) at ⌝ }
@@ -85,42 +85,42 @@ pub fn skip_source_files(s: &[u8], base: usize, at: usize, n: usize) -> DebugWal
     DebugWalk::At(p)
 }
 
-// The entry of index `k` of the `n` entries from `at` on.
-pub fn find_source_file(s: &[u8], base: usize, at: usize, n: usize, k: usize) -> SourceFileAnswer
+// The entry with index `k` among the `n` entries from `at` on.
+pub fn find_source_file(s: &[u8], base: usize, at: usize, n: usize, k: usize) -> SourceFileFound
     requires { ⌜ InFile base (now s) ⌝ }
-    ensures { λ r. ⌜ sourceFileFrom r ≡ picked (sourceFile (keepIn base (now (s .entry)))) (now (s .entry)) at n k ⌝ }
+    ensures { λ r. ⌜ sourceFileFound r ≡ picked (sourceFile (keepIn base (now (s .entry)))) (now (s .entry)) at n k ⌝ }
 {
     if n <= k {
-        return SourceFileAnswer::NoEntry;
+        return SourceFileFound::NoEntry;
     }
     if s.len() < at {
-        return SourceFileAnswer::Fault(DebugFault::Short);
+        return SourceFileFound::Fault(DebugFault::Short);
     }
     match skip_source_files(s, base, at, k) {
-        DebugWalk::Fault(e) => SourceFileAnswer::Fault(e),
+        DebugWalk::Fault(e) => SourceFileFound::Fault(e),
         DebugWalk::At(p) => match read_source_file(s, base, p) {
-            SourceFileStep::Fault(e) => SourceFileAnswer::Fault(e),
-            SourceFileStep::Entry(x, _) => SourceFileAnswer::Entry(x),
+            SourceFileStep::Fault(e) => SourceFileFound::Fault(e),
+            SourceFileStep::Entry(x, _) => SourceFileFound::Entry(x),
         },
     }
 }
 
 // The next entry of a walk.
-pub fn next_source_file(s: &[u8], base: usize, t: Table) -> SourceFileNext
+pub fn next_source_file_in(s: &[u8], base: usize, t: Table) -> SourceFileWalk
     requires { ⌜ InFile base (now s) ⌝ }
-    ensures { λ r. ⌜ sourceFileNext r ≡ stepOf (sourceFile (keepIn base (now (s .entry)))) (now (s .entry)) t ⌝ }
+    ensures { λ r. ⌜ sourceFileWalk r ≡ stepOf (sourceFile (keepIn base (now (s .entry)))) (now (s .entry)) t ⌝ }
 {
     let at = t.at;
     let count = t.count;
     if count == 0 {
-        return SourceFileNext::End;
+        return SourceFileWalk::End;
     }
     if s.len() < at {
-        return SourceFileNext::Fault(DebugFault::Short);
+        return SourceFileWalk::Fault(DebugFault::Short);
     }
     match read_source_file(s, base, at) {
-        SourceFileStep::Fault(e) => SourceFileNext::Fault(e),
-        SourceFileStep::Entry(x, m) => SourceFileNext::Entry(
+        SourceFileStep::Fault(e) => SourceFileWalk::Fault(e),
+        SourceFileStep::Entry(x, m) => SourceFileWalk::Entry(
             x,
             Table {
                 at: m,

@@ -13,7 +13,7 @@ ghost use Rattle.reading.specs.Places.{stepAt, wayAt, stepOf};
 ghost use Rattle.format.specs.Debug.{stringLayout};
 ghost use Rattle.debug_text.specs.Answers.{wayOf};
 ghost use Rattle.debug_text.specs.Picked.{picked};
-ghost use Rattle.debug_entries.specs.Answers.{stringLayoutStep, stringLayoutFrom, stringLayoutNext};
+ghost use Rattle.debug_entries.specs.Answers.{stringLayoutStep, stringLayoutFound, stringLayoutWalk};
 
 const STRING_LAYOUT_ENTRY_SIZE: usize = 8;
 
@@ -23,21 +23,21 @@ pub struct StringLayoutEntry {
     pub max_length: u16,
 }
 
-// An entry, and the place behind it.
+// An entry, and the place after it.
 pub enum StringLayoutStep {
     Fault(DebugFault),
     Entry(StringLayoutEntry, usize),
 }
 
-// An entry that is looked up; `NoEntry` where the table has none at the index.
-pub enum StringLayoutAnswer {
+// The entry that a lookup finds; `NoEntry` if the table has none at the index.
+pub enum StringLayoutFound {
     Fault(DebugFault),
     NoEntry,
     Entry(StringLayoutEntry),
 }
 
 // One step of a walk.
-pub enum StringLayoutNext {
+pub enum StringLayoutWalk {
     End,
     Fault(DebugFault),
     Entry(StringLayoutEntry, Table),
@@ -61,7 +61,7 @@ pub fn read_string_layout(s: &[u8], at: usize) -> StringLayoutStep
     )
 }
 
-// `n` entries from `at` on are passed over by their width.
+// Skips the `n` entries from `at` on, which all have one width.
 pub fn skip_string_layouts(s: &[u8], at: usize, n: usize) -> DebugWalk
     requires { ⌜ at ≤ length (now s) ⌝ }
     ensures { λ r. ⌜ wayOf r ≡ wayAt (many n stringLayout) (now (s .entry)) at ⌝ }
@@ -72,40 +72,40 @@ pub fn skip_string_layouts(s: &[u8], at: usize, n: usize) -> DebugWalk
     DebugWalk::At(at + STRING_LAYOUT_ENTRY_SIZE * n)
 }
 
-// The entry of index `k` of the `n` entries from `at` on.
-pub fn find_string_layout(s: &[u8], at: usize, n: usize, k: usize) -> StringLayoutAnswer
-    ensures { λ r. ⌜ stringLayoutFrom r ≡ picked stringLayout (now (s .entry)) at n k ⌝ }
+// The entry with index `k` among the `n` entries from `at` on.
+pub fn find_string_layout(s: &[u8], at: usize, n: usize, k: usize) -> StringLayoutFound
+    ensures { λ r. ⌜ stringLayoutFound r ≡ picked stringLayout (now (s .entry)) at n k ⌝ }
 {
     if n <= k {
-        return StringLayoutAnswer::NoEntry;
+        return StringLayoutFound::NoEntry;
     }
     if s.len() < at {
-        return StringLayoutAnswer::Fault(DebugFault::Short);
+        return StringLayoutFound::Fault(DebugFault::Short);
     }
     match skip_string_layouts(s, at, k) {
-        DebugWalk::Fault(e) => StringLayoutAnswer::Fault(e),
+        DebugWalk::Fault(e) => StringLayoutFound::Fault(e),
         DebugWalk::At(p) => match read_string_layout(s, p) {
-            StringLayoutStep::Fault(e) => StringLayoutAnswer::Fault(e),
-            StringLayoutStep::Entry(x, _) => StringLayoutAnswer::Entry(x),
+            StringLayoutStep::Fault(e) => StringLayoutFound::Fault(e),
+            StringLayoutStep::Entry(x, _) => StringLayoutFound::Entry(x),
         },
     }
 }
 
 // The next entry of a walk.
-pub fn next_string_layout(s: &[u8], t: Table) -> StringLayoutNext
-    ensures { λ r. ⌜ stringLayoutNext r ≡ stepOf stringLayout (now (s .entry)) t ⌝ }
+pub fn next_string_layout_in(s: &[u8], t: Table) -> StringLayoutWalk
+    ensures { λ r. ⌜ stringLayoutWalk r ≡ stepOf stringLayout (now (s .entry)) t ⌝ }
 {
     let at = t.at;
     let count = t.count;
     if count == 0 {
-        return StringLayoutNext::End;
+        return StringLayoutWalk::End;
     }
     if s.len() < at {
-        return StringLayoutNext::Fault(DebugFault::Short);
+        return StringLayoutWalk::Fault(DebugFault::Short);
     }
     match read_string_layout(s, at) {
-        StringLayoutStep::Fault(e) => StringLayoutNext::Fault(e),
-        StringLayoutStep::Entry(x, m) => StringLayoutNext::Entry(
+        StringLayoutStep::Fault(e) => StringLayoutWalk::Fault(e),
+        StringLayoutStep::Entry(x, m) => StringLayoutWalk::Entry(
             x,
             Table {
                 at: m,

@@ -1,3 +1,3 @@
 pub mod Parts
 pub mod Lookups
-pub mod Lying
+pub mod Laws

@@ -24,7 +24,7 @@ use Rattle.debug_text.specs.declared.DebugFault.{DebugFault}
 use Rattle.debug_text.specs.declared.DebugFault.the-variants as debugFault
 use Rattle.reading.proofs.Made.{holds-made}
 use Rattle.debug_text.proofs.Walks.{picked-is}
-use Rattle.debug_entries.specs.Answers.{EnumerationEntry, withValues, entryOf, enumerationEntry}
+use Rattle.debug_entries.specs.Answers.{EnumerationWithValues, withValues, entryOf, enumerationEntry}
 use Rattle.debug_tables.specs.Laws.{Standing}
 use Rattle.debug_tables.specs.declared.DebugTables.{DebugTables}
 use Rattle.debug_section.specs.Lookups.{debugTablesAt, startsAt, enumerationAt}
@@ -101,10 +101,10 @@ module _ (f : List ℕ) (p : Place) where
       entries-hold : (t : Tables Place) → Standing (byPlace p) (cut f p) u t → Holds (enumerationEntry (p .offset) (byPlace p)) (cut f p) (u .enumerations) (map (entryOf (p .offset)) (t .enumerations))
       entries-hold t s = holds-made (entryOf (p .offset)) (enumeration (byPlace p)) (cut f p) (u .enumerations) (t .enumerations) (s .enumerations)
 
-      abbrev entry-picks : Got EnumerationEntry
+      abbrev entry-picks : Got EnumerationWithValues
       entry-picks = picked (enumerationEntry (p .offset) (keepIn (p .offset) (sliced f p))) (sliced f p) (u .enumerations .at) (u .enumerations .count) n
 
-      pub look-entry : {x : Got EnumerationEntry} → x ≡ entry-picks → x ≡ enumerationAt f p n
+      pub look-entry : {x : Got EnumerationWithValues} → x ≡ entry-picks → x ≡ enumerationAt f p n
       look-entry h = look (enumerationEntry (p .offset)) (λ u. u .enumerations) (λ t. map (entryOf (p .offset)) (t .enumerations)) entries-hold n h ∙ entries-as (debugTablesAt f p)
 
       pub entry-fault : {B : Type 0} (e : DebugFault) → refused (debugFaultOf e) ≡ entry-picks → B

@@ -1,4 +1,4 @@
--- The section's part of the file, and its tables, by what the code told of them.
+-- The section's part of the file, and its tables, by the code's answers.
 use mathlib.Core.Path.{_≡_, refl, sym, ap, subst, _∙_}
 use mathlib.Core.Bool.{Bool, true, false}
 use mathlib.Core.List.{List}

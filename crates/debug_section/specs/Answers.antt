@@ -6,7 +6,7 @@ use Rattle.format.specs.Parts.{Place, Inside}
 use Rattle.format.specs.Debug.{Variable, FunctionName, StringLayout, SourceFile}
 use Rattle.base.specs.Error.{faultOf}
 use Rattle.base.specs.Section.{partIn}
-use Rattle.debug_entries.specs.Answers.{varNameIn, funcNameIn, stringLayoutIn, sourceFileIn, EnumerationEntry, enumDefIn}
+use Rattle.debug_entries.specs.Answers.{variableIn, functionNameIn, stringLayoutIn, sourceFileIn, EnumerationWithValues, enumerationIn}
 use Rattle.debug_tables.specs.declared.DebugTables.{DebugTables}
 use Rattle.debug_section.specs.declared.StartsAnswer.{StartsAnswer}
 use Rattle.debug_section.specs.declared.StartsAnswer.the-variants as starts
@@ -14,10 +14,10 @@ use Rattle.debug_section.specs.declared.VariableAnswer.{VariableAnswer}
 use Rattle.debug_section.specs.declared.VariableAnswer.the-variants as variableAnswer
 use Rattle.debug_section.specs.declared.FunctionNameAnswer.{FunctionNameAnswer}
 use Rattle.debug_section.specs.declared.FunctionNameAnswer.the-variants as functionNameAnswer
-use Rattle.debug_section.specs.declared.LayoutAnswer.{LayoutAnswer}
-use Rattle.debug_section.specs.declared.LayoutAnswer.the-variants as layoutAnswer
-use Rattle.debug_section.specs.declared.SourceAnswer.{SourceAnswer}
-use Rattle.debug_section.specs.declared.SourceAnswer.the-variants as sourceAnswer
+use Rattle.debug_section.specs.declared.StringLayoutAnswer.{StringLayoutAnswer}
+use Rattle.debug_section.specs.declared.StringLayoutAnswer.the-variants as layoutAnswer
+use Rattle.debug_section.specs.declared.SourceFileAnswer.{SourceFileAnswer}
+use Rattle.debug_section.specs.declared.SourceFileAnswer.the-variants as sourceAnswer
 use Rattle.debug_section.specs.declared.EnumerationAnswer.{EnumerationAnswer}
 use Rattle.debug_section.specs.declared.EnumerationAnswer.the-variants as enumerationAnswer
 use Rattle.debug_section.specs.declared.ValueAnswer.{ValueAnswer}
@@ -27,32 +27,32 @@ abbrev pub startsFrom : StartsAnswer → Got DebugTables
 startsFrom (starts.Refused e) = refused (faultOf e)
 startsFrom (starts.Starts t) = found t
 
--- where they are told, the section lies in the file. This follows from `startsAt`; it is said beside it for callers, who cut the section out
+-- where there are starts, the section lies in the file. This follows from `startsAt`; it is stated for callers, who slice by it
 abbrev pub StartsInside : List ℕ → Place → StartsAnswer → Type 0
 StartsInside f p (starts.Refused e) = Unit {0}
 StartsInside f p (starts.Starts t) = Inside f p
 
 abbrev pub variableFrom : VariableAnswer → Got (Variable Place)
 variableFrom (variableAnswer.Refused e) = refused (faultOf e)
-variableFrom (variableAnswer.Entry x) = found (varNameIn x)
+variableFrom (variableAnswer.Entry x) = found (variableIn x)
 
 abbrev pub functionNameFrom : FunctionNameAnswer → Got (FunctionName Place)
 functionNameFrom (functionNameAnswer.Refused e) = refused (faultOf e)
-functionNameFrom (functionNameAnswer.Entry x) = found (funcNameIn x)
+functionNameFrom (functionNameAnswer.Entry x) = found (functionNameIn x)
 
-abbrev pub layoutFrom : LayoutAnswer → Got StringLayout
+abbrev pub layoutFrom : StringLayoutAnswer → Got StringLayout
 layoutFrom (layoutAnswer.Refused e) = refused (faultOf e)
 layoutFrom (layoutAnswer.Entry x) = found (stringLayoutIn x)
 
-abbrev pub sourceFrom : SourceAnswer → Got (SourceFile Place)
+abbrev pub sourceFrom : SourceFileAnswer → Got (SourceFile Place)
 sourceFrom (sourceAnswer.Refused e) = refused (faultOf e)
 sourceFrom (sourceAnswer.Entry x) = found (sourceFileIn x)
 
 -- Enumerations and their values
 
-abbrev pub enumerationFrom : EnumerationAnswer → Got EnumerationEntry
+abbrev pub enumerationFrom : EnumerationAnswer → Got EnumerationWithValues
 enumerationFrom (enumerationAnswer.Refused e) = refused (faultOf e)
-enumerationFrom (enumerationAnswer.Entry x) = found (enumDefIn x)
+enumerationFrom (enumerationAnswer.Entry x) = found (enumerationIn x)
 
 abbrev pub valueFrom : ValueAnswer → Got Place
 valueFrom (valueAnswer.Refused e) = refused (faultOf e)

@@ -1,4 +1,4 @@
--- What holds of the lookups in the debug section.
+-- The claims on the lookups in the debug section.
 use Prim.Native.Nat.{ℕ}
 use mathlib.Core.List.{List}
 use mathlib.Core.Option.{some}
@@ -12,8 +12,8 @@ use Rattle.format.specs.Lookups.{EnumerationHead, debugAnswers}
 use Rattle.debug_entries.specs.Laws.{Lies, VariableLies, FunctionLies, FileLies}
 use Rattle.debug_section.specs.Lookups.{debugTablesAt, answersAt, startsAt}
 
--- the names and paths that are answered lie in the section, and that in the file
-pub record Lie (f : List ℕ) (p : Place) : Type 0 where
+-- the names and paths that are answered lie in the section, and the section in the file
+pub record NamesInside (f : List ℕ) (p : Place) : Type 0 where
   pub variable : (i : ℕ) (v : Variable Place) → answersAt f p .variable i ≡ found v → Inside f p × VariableLies (p .offset) (cut f p) v
   pub functionName : (i : ℕ) (v : FunctionName Place) → answersAt f p .functionName i ≡ found v → Inside f p × FunctionLies (p .offset) (cut f p) v
   pub sourceFile : (i : ℕ) (v : SourceFile Place) → answersAt f p .sourceFile i ≡ found v → Inside f p × FileLies (p .offset) (cut f p) v
@@ -26,4 +26,4 @@ pub record Laws : Type 0 where
   -- the places of the tables are refused exactly as the tables are
   pub refused-alike : (f : List ℕ) (p : Place) (e : Fault) → startsAt f p ≡ refused e → debugTablesAt f p ≡ refused e
   pub found-alike : (f : List ℕ) (p : Place) (e : Fault) → debugTablesAt f p ≡ refused e → startsAt f p ≡ refused e
-  pub lie : (f : List ℕ) (p : Place) → Lie f p
+  pub names-inside : (f : List ℕ) (p : Place) → NamesInside f p

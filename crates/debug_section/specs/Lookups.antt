@@ -9,7 +9,7 @@ use Rattle.format.specs.Faults.{tooLong, noDebug}
 use Rattle.format.specs.Parts.{limit, Place, cut, isInside, byPlace}
 use Rattle.format.specs.Debug.{Tables}
 use Rattle.format.specs.Lookups.{orNoDebug, debugAt, DebugAnswers, debugAnswersOf}
-use Rattle.debug_entries.specs.Answers.{EnumerationEntry, withValues}
+use Rattle.debug_entries.specs.Answers.{EnumerationWithValues, withValues}
 use Rattle.debug_tables.specs.Starts.{debugStarts}
 use Rattle.debug_tables.specs.declared.DebugTables.{DebugTables}
 
@@ -35,5 +35,5 @@ startsAt f p = do
   orNoDebug (itemOf (debugStarts (cut f q)))
 
 -- an enumeration with the table of its values' names
-abbrev pub enumerationAt : List ℕ → Place → ℕ → Got EnumerationEntry
+abbrev pub enumerationAt : List ℕ → Place → ℕ → Got EnumerationWithValues
 enumerationAt f p i = answersAt f p .enumeration i >>= λ h. found (withValues (p .offset) h)

@@ -8,25 +8,25 @@ use base::section::Part;
 use base::section::PartAnswer;
 use base::section::Section;
 use base::section::section_part;
-use debug_entries::enum_defs;
-use debug_entries::enum_defs::EnumDefAnswer;
-use debug_entries::enum_defs::EnumDefEntry;
-use debug_entries::func_names;
-use debug_entries::func_names::FuncNameAnswer;
-use debug_entries::func_names::FuncNameEntry;
+use debug_entries::enumerations;
+use debug_entries::enumerations::EnumerationEntry;
+use debug_entries::enumerations::EnumerationFound;
+use debug_entries::function_names;
+use debug_entries::function_names::FunctionNameEntry;
+use debug_entries::function_names::FunctionNameFound;
 use debug_entries::source_files;
-use debug_entries::source_files::SourceFileAnswer;
 use debug_entries::source_files::SourceFileEntry;
+use debug_entries::source_files::SourceFileFound;
 use debug_entries::string_layouts;
-use debug_entries::string_layouts::StringLayoutAnswer;
 use debug_entries::string_layouts::StringLayoutEntry;
-use debug_entries::var_names;
-use debug_entries::var_names::VarNameAnswer;
-use debug_entries::var_names::VarNameEntry;
+use debug_entries::string_layouts::StringLayoutFound;
+use debug_entries::variables;
+use debug_entries::variables::VariableEntry;
+use debug_entries::variables::VariableFound;
 use debug_tables::DebugTables;
-use debug_tables::TablesAnswer;
+use debug_tables::DebugTablesAnswer;
 use debug_tables::read_tables;
-use debug_text::NameAnswer;
+use debug_text::NameFound;
 use line_map::LineAnswer;
 ghost use mathlib.Core.Path.{_≡_};
 ghost use Rattle.base.specs.Section.{placeIn, partFrom, PartWithin};
@@ -43,27 +43,27 @@ pub enum StartsAnswer {
 
 pub enum VariableAnswer {
     Refused(ContainerError),
-    Entry(VarNameEntry),
+    Entry(VariableEntry),
 }
 
 pub enum FunctionNameAnswer {
     Refused(ContainerError),
-    Entry(FuncNameEntry),
+    Entry(FunctionNameEntry),
 }
 
-pub enum LayoutAnswer {
+pub enum StringLayoutAnswer {
     Refused(ContainerError),
     Entry(StringLayoutEntry),
 }
 
-pub enum SourceAnswer {
+pub enum SourceFileAnswer {
     Refused(ContainerError),
     Entry(SourceFileEntry),
 }
 
 pub enum EnumerationAnswer {
     Refused(ContainerError),
-    Entry(EnumDefEntry),
+    Entry(EnumerationEntry),
 }
 
 pub enum ValueAnswer {
@@ -71,7 +71,7 @@ pub enum ValueAnswer {
     Name(Part),
 }
 
-// The part of the file that the section is.
+// The part of the file that the section occupies.
 pub fn debug_part(file: &[u8], section: Section) -> PartAnswer
     ensures { λ r. ⌜ (partFrom r ≡ debugPart (now (file .entry)) (placeIn section)) × PartWithin (now (file .entry)) r ⌝ }
 {
@@ -94,14 +94,14 @@ pub fn tables(file: &[u8], section: Section) -> StartsAnswer
             let start = p.offset;
             let end = start + p.size;
             match read_tables(&file[start..end]) {
-                TablesAnswer::Fault(_) => StartsAnswer::Refused(ContainerError::NoDebug),
-                TablesAnswer::Tables(t) => StartsAnswer::Starts(t),
+                DebugTablesAnswer::Fault(_) => StartsAnswer::Refused(ContainerError::NoDebug),
+                DebugTablesAnswer::Tables(t) => StartsAnswer::Starts(t),
             }
         }
     }
 }
 
-// The source location of a function's bytecode offset: 14 where the lines are not sorted, 13 where there is none.
+// The source location of a function's bytecode offset: 14 if the lines are not sorted, 13 if there is none.
 pub fn lookup_source_location(
     file: &[u8],
     section: Section,
@@ -155,10 +155,10 @@ pub fn variable(file: &[u8], section: Section, index: u16) -> VariableAnswer
             let end = start + section.size as usize;
             let at = t.variables.at;
             let count = t.variables.count;
-            match var_names::find_var_name(&file[start..end], start, at, count, index as usize) {
-                VarNameAnswer::Fault(_) => VariableAnswer::Refused(ContainerError::NoDebug),
-                VarNameAnswer::NoEntry => VariableAnswer::Refused(ContainerError::NoEntry),
-                VarNameAnswer::Entry(x) => VariableAnswer::Entry(x),
+            match variables::find_variable(&file[start..end], start, at, count, index as usize) {
+                VariableFound::Fault(_) => VariableAnswer::Refused(ContainerError::NoDebug),
+                VariableFound::NoEntry => VariableAnswer::Refused(ContainerError::NoEntry),
+                VariableFound::Entry(x) => VariableAnswer::Entry(x),
             }
         }
     }
@@ -175,41 +175,47 @@ pub fn function_name(file: &[u8], section: Section, index: u16) -> FunctionNameA
             let end = start + section.size as usize;
             let at = t.functions.at;
             let count = t.functions.count;
-            match func_names::find_func_name(&file[start..end], start, at, count, index as usize) {
-                FuncNameAnswer::Fault(_) => FunctionNameAnswer::Refused(ContainerError::NoDebug),
-                FuncNameAnswer::NoEntry => FunctionNameAnswer::Refused(ContainerError::NoEntry),
-                FuncNameAnswer::Entry(x) => FunctionNameAnswer::Entry(x),
+            match function_names::find_function_name(
+                &file[start..end],
+                start,
+                at,
+                count,
+                index as usize,
+            ) {
+                FunctionNameFound::Fault(_) => FunctionNameAnswer::Refused(ContainerError::NoDebug),
+                FunctionNameFound::NoEntry => FunctionNameAnswer::Refused(ContainerError::NoEntry),
+                FunctionNameFound::Entry(x) => FunctionNameAnswer::Entry(x),
             }
         }
     }
 }
 
 // The string layout at a position of its table: where a string variable lies in the data region, and how long it may get.
-pub fn string_layout(file: &[u8], section: Section, index: u16) -> LayoutAnswer
+pub fn string_layout(file: &[u8], section: Section, index: u16) -> StringLayoutAnswer
     ensures { λ r. ⌜ layoutFrom r ≡ answersAt (now (file .entry)) (placeIn section) .stringLayout index ⌝ }
 {
     match tables(file, section) {
-        StartsAnswer::Refused(e) => LayoutAnswer::Refused(e),
+        StartsAnswer::Refused(e) => StringLayoutAnswer::Refused(e),
         StartsAnswer::Starts(t) => {
             let start = section.offset as usize;
             let end = start + section.size as usize;
             let at = t.strings.at;
             let count = t.strings.count;
             match string_layouts::find_string_layout(&file[start..end], at, count, index as usize) {
-                StringLayoutAnswer::Fault(_) => LayoutAnswer::Refused(ContainerError::NoDebug),
-                StringLayoutAnswer::NoEntry => LayoutAnswer::Refused(ContainerError::NoEntry),
-                StringLayoutAnswer::Entry(x) => LayoutAnswer::Entry(x),
+                StringLayoutFound::Fault(_) => StringLayoutAnswer::Refused(ContainerError::NoDebug),
+                StringLayoutFound::NoEntry => StringLayoutAnswer::Refused(ContainerError::NoEntry),
+                StringLayoutFound::Entry(x) => StringLayoutAnswer::Entry(x),
             }
         }
     }
 }
 
 // The source file at a position of its table: its path and hash.
-pub fn source_file(file: &[u8], section: Section, file_id: SourceFileId) -> SourceAnswer
+pub fn source_file(file: &[u8], section: Section, file_id: SourceFileId) -> SourceFileAnswer
     ensures { λ r. ⌜ sourceFrom r ≡ answersAt (now (file .entry)) (placeIn section) .sourceFile («file_id» .0) ⌝ }
 {
     match tables(file, section) {
-        StartsAnswer::Refused(e) => SourceAnswer::Refused(e),
+        StartsAnswer::Refused(e) => SourceFileAnswer::Refused(e),
         StartsAnswer::Starts(t) => {
             let start = section.offset as usize;
             let end = start + section.size as usize;
@@ -222,9 +228,9 @@ pub fn source_file(file: &[u8], section: Section, file_id: SourceFileId) -> Sour
                 count,
                 file_id.0 as usize,
             ) {
-                SourceFileAnswer::Fault(_) => SourceAnswer::Refused(ContainerError::NoDebug),
-                SourceFileAnswer::NoEntry => SourceAnswer::Refused(ContainerError::NoEntry),
-                SourceFileAnswer::Entry(x) => SourceAnswer::Entry(x),
+                SourceFileFound::Fault(_) => SourceFileAnswer::Refused(ContainerError::NoDebug),
+                SourceFileFound::NoEntry => SourceFileAnswer::Refused(ContainerError::NoEntry),
+                SourceFileFound::Entry(x) => SourceFileAnswer::Entry(x),
             }
         }
     }
@@ -241,10 +247,16 @@ pub fn enumeration(file: &[u8], section: Section, index: u16) -> EnumerationAnsw
             let end = start + section.size as usize;
             let at = t.enumerations.at;
             let count = t.enumerations.count;
-            match enum_defs::find_enum_def(&file[start..end], start, at, count, index as usize) {
-                EnumDefAnswer::Fault(_) => EnumerationAnswer::Refused(ContainerError::NoDebug),
-                EnumDefAnswer::NoEntry => EnumerationAnswer::Refused(ContainerError::NoEntry),
-                EnumDefAnswer::Entry(x) => EnumerationAnswer::Entry(x),
+            match enumerations::find_enumeration(
+                &file[start..end],
+                start,
+                at,
+                count,
+                index as usize,
+            ) {
+                EnumerationFound::Fault(_) => EnumerationAnswer::Refused(ContainerError::NoDebug),
+                EnumerationFound::NoEntry => EnumerationAnswer::Refused(ContainerError::NoEntry),
+                EnumerationFound::Entry(x) => EnumerationAnswer::Entry(x),
             }
         }
     }
@@ -261,7 +273,7 @@ pub fn enumeration_value(file: &[u8], section: Section, index: u16, value: u16) 
             let end = start + section.size as usize;
             let at = t.enumerations.at;
             let count = t.enumerations.count;
-            match enum_defs::find_enum_value(
+            match enumerations::find_enumeration_value(
                 &file[start..end],
                 start,
                 at,
@@ -269,15 +281,15 @@ pub fn enumeration_value(file: &[u8], section: Section, index: u16, value: u16) 
                 index as usize,
                 value as usize,
             ) {
-                NameAnswer::Fault(_) => ValueAnswer::Refused(ContainerError::NoDebug),
-                NameAnswer::NoEntry => ValueAnswer::Refused(ContainerError::NoEntry),
-                NameAnswer::Name(x) => ValueAnswer::Name(x),
+                NameFound::Fault(_) => ValueAnswer::Refused(ContainerError::NoDebug),
+                NameFound::NoEntry => ValueAnswer::Refused(ContainerError::NoEntry),
+                NameFound::Name(x) => ValueAnswer::Name(x),
             }
         }
     }
 }
 
-// The claims of `specs/Laws.antt` hold. There is no code: the contract makes the check prove them.
+// The claims of `specs/Laws.antt` hold. Empty body: the contract makes the checker prove them.
 pub fn laws_hold()
     ensures { λ _. ⌜ Laws ⌝ }
 {}

@@ -1,34 +1,25 @@
 -- The counts of the tables in force.
-use mathlib.Core.Path.{_≡_, refl, sym, ap, _∙_}
+use mathlib.Core.Path.{_≡_, sym, ap, _∙_}
 use mathlib.Core.List.{List}
-use mathlib.Core.Option.{none, some}
 use Prim.Native.Nat.{ℕ}
 use Rattle.reading.specs.Fault.{Fault}
-use Rattle.reading.specs.Reader.{Read, fault, got}
-use Rattle.reading.specs.Answer.{refused, found, itemOf}
+use Rattle.reading.specs.Answer.{Got, refused, found, _>>=_, itemOf}
 use Rattle.reading.proofs.Tables.{holds-count}
 use Rattle.format.specs.Parts.{byBytes}
-use Rattle.format.specs.Debug.{Tables, debugTables}
-use Rattle.format.specs.Load.{readable, debugOf}
-use Rattle.format.specs.Record.{DebugCounts, debugCounts}
-use Rattle.format.proofs.Answers.{never, same-found}
+use Rattle.format.specs.Debug.{Tables}
+use Rattle.format.specs.Record.{DebugCounts, tableCounts}
 use Rattle.debug_tables.specs.Starts.{debugStarts}
+use Rattle.debug_tables.specs.Counts.{countsRead}
 use Rattle.debug_tables.specs.Laws as standing-in
 use Rattle.debug_tables.specs.declared.DebugTables.{DebugTables}
 use Rattle.debug_tables.proofs.Standing as standing
 
-unread : {A : Type 0} (x : Read A) (f : Fault) → itemOf x ≡ refused f → readable x ≡ none
-unread (fault d) f e = refl
-unread (got a rest) f e = never (sym e)
-
-read-is : {A : Type 0} (x : Read A) (a : A) → itemOf x ≡ found a → readable x ≡ some a
-read-is (fault d) a e = never e
-read-is (got b rest) a e = ap some (same-found e)
+abbrev counted : Got (Tables (List ℕ)) → Got DebugCounts
+counted x = x >>= λ t. found (tableCounts t)
 
 module _ (s : List ℕ) where
-  pub none-counted : (f : Fault) → refused f ≡ itemOf (debugStarts s) → none ≡ debugCounts (debugOf s)
-  unfolding debugOf
-  none-counted f e = rw (unread (debugTables byBytes s) f (standing.unreadable byBytes s f (sym e)))
+  pub none-counted : (f : Fault) → refused f ≡ itemOf (debugStarts s) → refused f ≡ countsRead s
+  none-counted f e = sym (ap counted (standing.unreadable byBytes s f (sym e)))
 
   abbrev pub countsOf : DebugTables → DebugCounts
   countsOf u =
@@ -42,7 +33,7 @@ module _ (s : List ℕ) where
       }
 
   -- the counts of tables that stand there
-  same-counts : (u : DebugTables) (t : Tables (List ℕ)) → standing-in.Standing byBytes s u t → some (countsOf u) ≡ debugCounts (some t)
+  same-counts : (u : DebugTables) (t : Tables (List ℕ)) → standing-in.Standing byBytes s u t → countsOf u ≡ tableCounts t
   same-counts u t g =
       rw (
         holds-count _ s (u .lines) (t .lines) (g .lines),
@@ -53,8 +44,7 @@ module _ (s : List ℕ) where
         holds-count _ s (u .enumerations) (t .enumerations) (g .enumerations),
       )
 
-  pub some-counted : (u : DebugTables) → found u ≡ itemOf (debugStarts s) → some (countsOf u) ≡ debugCounts (debugOf s)
-  unfolding debugOf
+  pub some-counted : (u : DebugTables) → found u ≡ itemOf (debugStarts s) → found (countsOf u) ≡ countsRead s
   some-counted u e =
       let q = standing.readable byBytes s u (sym e) in
-      same-counts u (q .tables) (q .stand) ∙ sym (ap debugCounts (read-is (debugTables byBytes s) (q .tables) (q .reads)))
+      ap found (same-counts u (q .tables) (q .stand)) ∙ sym (ap counted (q .reads))

@@ -31,11 +31,11 @@ pub kind-else : (tag : ℕ) → (tag ≡ 1 → ⊥) → (tag ≡ 2 → ⊥) → 
 unfolding kindOf
 kind-else tag a b c d e f = rw (ne-eqb tag 1 a, ne-eqb tag 2 b, ne-eqb tag 3 c, ne-eqb tag 4 d, ne-eqb tag 6 e, ne-eqb tag 9 f)
 
--- what a `match` on the kind told
+-- the case that a `match` on the kind found
 pub of-kind : (n : ℕ) (s : List ℕ) (at : ℕ) (w : Way) {k v : TableKind} → k ≡ v → Goes (entriesOf (kindIn v) n) s at w → Goes (entriesOf (kindIn k) n) s at w
 of-kind n s at w e g = subst (λ (x : TableKind). Goes (entriesOf (kindIn x) n) s at w) (sym e) g
 
--- whatever is kept of names and paths, the same entries are passed over
+-- whatever is kept of names and paths, the same entries are skipped
 alike-stops : {A B : Type 0} (s : List ℕ) (m : B → A) {x : Read A} {y : Read B} (f : Fault) → Alike s m x y → y ≡ fault f → x ≡ fault f
 alike-stops s m f (stops d) e = cc
 alike-stops s m f (gives b t w) e = never (sym e)
@@ -70,7 +70,7 @@ module _ {T : Type 0} (keep : Keep T) (s : List ℕ) (n at : ℕ) (h : at ≤ le
   pub enumerations-aside : Goes (many n (enumeration keep)) s at w → Goes (many n (enumeration aside)) s at w
   enumerations-aside = aside-goes (onEnumeration none-kept) (enumeration aside) (enumeration keep) (same-enumeration s aside keep none-kept (λ k m i. refl))
 
--- `n` entries and a `give` behind them
+-- `n` entries, then a `give`
 gave : {A B : Type 0} (r : Reader A) (make : List A → B) (n : ℕ) (y : List ℕ) {x : B} {rest : List ℕ} → next (many n r y) (λ es. give (make es)) ≡ got x rest → (es : List A) × (make es ≡ x) × (length es ≡ n)
 gave r make n y e = let b = both (many n r y) e in (b .item, cc, many-length r n y (b .item) (b .middle) (b .first))
 
@@ -89,7 +89,7 @@ listed-as unknown size x h = absurd (let z : _≡_ {A = ℕ} 0 1 = ap (λ b. mat
 pub start-listed : (k : Kind) (size at : ℕ) (x : List ℕ) → isListed k ≡ true → payloadStart k size at x ≡ next (u16 x) (λ n y. next (entriesOf k n y) (λ z. give (entriesAt at z)))
 start-listed k size at x h = ap (λ (z : Read Entries). next z (λ p. give (entriesAt at p))) (listed-as k size x h) ∙ then-then (u16 x) (λ n. entriesOf k n) (λ p. give (entriesAt at p))
 
--- as many entries as the count says, behind it
+-- a count, then as many entries
 stand-in : {A : Type 0} (make : List A → Entries) (at n : ℕ) (x : Entries) → ((es : List A) → entriesAt at (make es) ≡ behindCount at (length es))
     → (es : List A) × (make es ≡ x) × (length es ≡ n) → entriesAt at x ≡ behindCount at n
 stand-in make at n x h (es, e, l) = ap (λ (y : Entries). entriesAt at y) (sym e) ∙ h es ∙ ap (behindCount at) l

@@ -1,4 +1,4 @@
--- The rows and their payloads, one turn after the other.
+-- The rows and their payloads, one after another.
 use mathlib.Core.Path.{_≡_, refl, sym, ap, _∙_}
 use mathlib.Core.List.{List, [], _∷_}
 use Prim.Native.Nat.{ℕ, suc, _+_, _*_, _-_, _≤_, _<_}
@@ -30,7 +30,7 @@ module _ (s : List ℕ) where
   read-few n h e l = let d = length-drop 2 s in rw (number-at 2 s 0 2 refl h, ← e, fixed-many n (fixed-bytes 8) .short (drop 2 s) (omega arith))
 
   -- `i` of `n` rows are done, and their payloads up to `p`: the rows that are left, and the tables so far
-  pub record Going (n p i : ℕ) (u : DebugTables) : Type 0 where
+  pub record RowsDone (n p i : ℕ) (u : DebugTables) : Type 0 where
     pub rows : List Row
     pub left : many (n - i) (bytes 8) (drop (2 + 8 * i) s) ≡ got rows (drop (2 + 8 * n) s)
     pub same : debugStarts s ≡ debugStartsOf (length s) rows u (drop p s)
@@ -40,15 +40,15 @@ module _ (s : List ℕ) where
   unfolding debugStarts rowsOf
   rows-read n rows rest h e m = rw (number-at 2 s 0 2 refl h, ← e, m)
 
-  pub going-start : (n : ℕ) → 2 + 8 * n ≤ length s → n ≡ leAt 2 s 0 → Going n (2 + 8 * n) 0 noStarts
-  going-start n h e =
+  pub none-done : (n : ℕ) → 2 + 8 * n ≤ length s → n ≡ leAt 2 s 0 → RowsDone n (2 + 8 * n) 0 noStarts
+  none-done n h e =
       let l = length-drop 2 s in
       let w = fixed-many n (fixed-bytes 8) .whole (drop 2 s) (omega arith) in
       let m : many n (bytes 8) (drop 2 s) ≡ got (w .0) (drop (2 + 8 * n) s) = w .1 ∙ ap (got (w .0)) (drop-drop (8 * n) 2 s) in
       record { rows = w .0; left = rw (sub-zero n) m; same = rows-read n (w .0) (drop (2 + 8 * n) s) (omega arith) e m }
 
-  pub going-end : (n p i : ℕ) (u : DebugTables) → n ≤ i → Going n p i u → found u ≡ itemOf (debugStarts s)
-  going-end n p i u h g =
+  pub all-done : (n p i : ℕ) (u : DebugTables) → n ≤ i → RowsDone n p i u → found u ≡ itemOf (debugStarts s)
+  all-done n p i u h g =
       let z : n - i ≡ 0 = omega arith in
       let e : got [] (drop (2 + 8 * i) s) ≡ got (g .rows) (drop (2 + 8 * n) s) = rw z at (g .left) in
       let r : g .rows ≡ [] = cc in
@@ -56,7 +56,7 @@ module _ (s : List ℕ) where
 
   -- a turn: the row at hand is read by its tag and size
   module _ (n p i : ℕ) (u : DebugTables) (tag size : ℕ) (inside : 2 + 8 * n ≤ length s) (within : p ≤ length s) (h : i < n)
-      (tagged : tag ≡ leAt 2 s (2 + 8 * i)) (sized : size ≡ leAt 4 s (2 + 8 * i + 4)) (k : Kind) (kind : k ≡ kindOf tag) (g : Going n p i u) where
+      (tagged : tag ≡ leAt 2 s (2 + 8 * i)) (sized : size ≡ leAt 4 s (2 + 8 * i + 4)) (k : Kind) (kind : k ≡ kindOf tag) (g : RowsDone n p i u) where
     row : Row
     row = take 8 (drop (2 + 8 * i) s)
 
@@ -88,11 +88,11 @@ module _ (s : List ℕ) where
         ∙ ap (λ (j : Kind). next (payloadStart j (sizeOf row) p (drop p s)) (λ t. debugStartsOf (length s) (others .0) (putAs j t u))) row-kind
         ∙ ap (λ (n : ℕ). next (payloadStart k n p (drop p s)) (λ t. debugStartsOf (length s) (others .0) (putAs k t u))) row-size
 
-    pub going-bad : (f : Fault) → payloadStart k size p (drop p s) ≡ fault f → refused f ≡ itemOf (debugStarts s)
-    going-bad f e = sym (ap itemOf (section-is ∙ ap (λ (x : Read Table). next x (λ t. debugStartsOf (length s) (others .0) (putAs k t u))) e))
+    pub row-stops : (f : Fault) → payloadStart k size p (drop p s) ≡ fault f → refused f ≡ itemOf (debugStarts s)
+    row-stops f e = sym (ap itemOf (section-is ∙ ap (λ (x : Read Table). next x (λ t. debugStartsOf (length s) (others .0) (putAs k t u))) e))
 
-    pub going-on : (t : Table) (m : ℕ) (v : DebugTables) → Reads (payloadStart k size p) s p (item t m) → v ≡ putAs k t u → Going n m (i + 1) v
-    going-on t m v q e =
+    pub row-done : (t : Table) (m : ℕ) (v : DebugTables) → Reads (payloadStart k size p) s p (item t m) → v ≡ putAs k t u → RowsDone n m (i + 1) v
+    row-done t m v q e =
         record {
           rows = others .0;
           left = others .2;

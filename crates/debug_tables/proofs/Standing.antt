@@ -1,4 +1,4 @@
--- The tables in force stand where `debugStarts` says, and it tells them exactly where the section reads.
+-- The tables in force stand where `debugStarts` says, and it gives their places exactly if the section reads.
 use mathlib.Core.Path.{_≡_, refl, sym, ap, subst}
 use mathlib.Core.List.{List, [], _∷_}
 use Prim.Native.Nat.{ℕ, _+_, _-_, _≤_}
@@ -38,14 +38,14 @@ module _ {T : Type 0} (keep : Keep T) (s : List ℕ) where
         enumerations = holds-none (enumeration keep);
       }
 
-  -- the table that a payload at `at` is
+  -- the table in a payload at `at`
   holds-in : {A : Type 0} (r : Reader A) (make : List A → Payload T) (at : ℕ) (x : Payload T) (y : List ℕ) → at ≤ length s
       → next (counted r (drop at s)) (λ es. give (make es)) ≡ got x y → (es : List A) × (make es ≡ x) × Holds r s (record { at = at + 2; count = length es }) es
   holds-in r make at x y h e =
       let b = both (counted r (drop at s)) e in
       (b .item, cc, counted-stands r s at (b .item) (b .middle) h (b .first))
 
-  -- where its entries stand does not ask what is kept of names and paths
+  -- where its entries stand does not depend on what is kept of names and paths
   entries-aside : (at : ℕ) (x : Payload T) → entriesAt at (onPayload none-kept x) ≡ entriesAt at x
   entries-aside at (ofLines es) = refl
   entries-aside at (ofVariables es) = ap (behindCount at) (length-map es _)
@@ -80,7 +80,7 @@ module _ {T : Type 0} (keep : Keep T) (s : List ℕ) where
         subst (Put enumerations) (h .1) (record { lines = g .lines; variables = g .variables; functions = g .functions; strings = g .strings; files = g .files; enumerations = h .2 })
     put-stand unknown size x y e = let z : skipped ≡ x = cc (both (Rattle.reading.specs.Reader.bytes size (drop at s)) e .second) in subst (Put unknown) z g
 
-  -- both read on alike: they stop with the same fault, or give tables, and the places where these stand
+  -- both read alike: they stop with the same fault, or give tables and the places where these stand
   data Agree : Read DebugTables → Read (Tables T) → Type 0 where
     stop : (f : Fault) → Agree (fault f) (fault f)
     stand : (u : DebugTables) (t : Tables T) (rest : List ℕ) → Standing keep s u t → Agree (got u rest) (got t rest)

@@ -9,11 +9,13 @@ use Rattle.debug_text.specs.Answers.{debugFaultOf}
 use Rattle.debug_tables.specs.declared.TableKind.{TableKind}
 use Rattle.debug_tables.specs.declared.TableKind.the-variants as kind
 use Rattle.debug_tables.specs.declared.DebugTables.{DebugTables}
-use Rattle.debug_tables.specs.declared.TablesAnswer.{TablesAnswer}
-use Rattle.debug_tables.specs.declared.TablesAnswer.the-variants as answer
+use Rattle.debug_tables.specs.declared.DebugTablesAnswer.{DebugTablesAnswer}
+use Rattle.debug_tables.specs.declared.DebugTablesAnswer.the-variants as answer
 use Rattle.debug_tables.specs.declared.PayloadStep.{PayloadStep}
 use Rattle.debug_tables.specs.declared.PayloadStep.the-variants as step
 use Rattle.debug_tables.specs.declared.DebugCounts.{DebugCounts}
+use Rattle.debug_tables.specs.declared.DebugCountsAnswer.{DebugCountsAnswer}
+use Rattle.debug_tables.specs.declared.DebugCountsAnswer.the-variants as counts
 use Rattle.debug_tables.specs.declared.MaybeDebug.{MaybeDebug}
 use Rattle.debug_tables.specs.declared.MaybeDebug.the-variants as maybe
 
@@ -31,7 +33,7 @@ abbrev pub payloadStep : PayloadStep → Step Table
 payloadStep (step.Fault e) = stops (debugFaultOf e)
 payloadStep (step.Table t m) = item t m
 
-abbrev pub debugTablesFrom : TablesAnswer → Got DebugTables
+abbrev pub debugTablesFrom : DebugTablesAnswer → Got DebugTables
 debugTablesFrom (answer.Fault e) = refused (debugFaultOf e)
 debugTablesFrom (answer.Tables t) = found t
 
@@ -46,7 +48,11 @@ debugCountsIn c =
       enumerations = c .enumerations;
     }
 
--- none where the section does not read
+abbrev pub debugCountsFrom : DebugCountsAnswer → Got record-of.DebugCounts
+debugCountsFrom (counts.Fault e) = refused (debugFaultOf e)
+debugCountsFrom (counts.Counts c) = found (debugCountsIn c)
+
+-- what a record holds of them: none where the container loads with no debug
 abbrev pub maybeDebug : MaybeDebug → Option record-of.DebugCounts
 maybeDebug maybe.None = none
 maybeDebug (maybe.Some c) = some (debugCountsIn c)

@@ -1,4 +1,4 @@
--- The places of the tables in force are told if and only if the section reads, and each table stands at its place, whatever is kept of names and paths.
+-- The places of the tables in force are answered exactly if the section reads, and each table stands at its place, whatever is kept of names and paths.
 use Prim.Native.Nat.{ℕ, _<_}
 use mathlib.Core.Path.{_≡_}
 use mathlib.Core.List.{List}
@@ -27,7 +27,7 @@ pub record DebugReadable {T : Type 0} (keep : Keep T) (s : List ℕ) (u : DebugT
   pub reads : itemOf (debugTables keep s) ≡ found tables
   pub stand : Standing keep s u tables
 
--- of a list of bytes: each count has two
+-- each count has two bytes
 pub record TwoByteCounts (u : DebugTables) : Type 0 where
   pub lines : u .lines .count < 65536
   pub variables : u .variables .count < 65536

@@ -1,5 +1,5 @@
--- Where the tables in force stand in the debug section: the entries of each behind its count of two bytes. A table that no row has is empty
--- and stands at 0.
+-- Where the tables in force stand in the debug section: the entries of each follow its count (document 01: "Known payloads start with a count 2"). A table
+-- without a row is empty and at 0.
 use Prim.Native.Nat.{ℕ, _+_, _-_}
 use mathlib.Core.Bool.{Bool, true, false}
 use mathlib.Core.List.{List, [], _∷_}
@@ -34,7 +34,7 @@ putAs enumerations t u =
     record { lines = u .lines; variables = u .variables; functions = u .functions; strings = u .strings; files = u .files; enumerations = t }
 putAs unknown t u = u
 
--- where the entries of a payload stand that was read at the place `at`: behind its count; a payload that is skipped has none
+-- where the entries of a payload at the place `at` stand: after its count; a skipped payload has none
 abbrev pub behindCount : ℕ → ℕ → Table
 behindCount at n = record { at = at + 2; count = n }
 
@@ -47,7 +47,7 @@ entriesAt at (ofFiles es) = behindCount at (length es)
 entriesAt at (ofEnumerations es) = behindCount at (length es)
 entriesAt at skipped = nowhere
 
--- Names and paths aside: whatever is kept of them, it moves no table
+-- Names and paths aside: what is kept of them does not move a table
 abbrev pub aside : Keep (Unit {0})
 aside bytes behind = tt
 
@@ -72,7 +72,7 @@ debugStarts = do
   rows ← rowsOf
   debugStartsOf whole rows noStarts
 
--- Document 01 lists the tag
+-- Whether document 01 lists the tag
 abbrev pub isListed : Kind → Bool
 isListed lines = true
 isListed variables = true

@@ -1,9 +1,10 @@
-// The rows of the debug section `s`, and where its tables in force stand in it. Names and paths are passed over: their place in the file does not matter.
-use debug_entries::enum_defs::skip_enum_defs;
-use debug_entries::func_names::skip_func_names;
+// The rows of the debug section `s`, and where its tables in force stand in it. Names and paths are skipped: their place in the file does not matter.
+use debug_entries::enumerations::skip_enumerations;
+use debug_entries::function_names::skip_function_names;
 use debug_entries::source_files::skip_source_files;
 use debug_entries::string_layouts::skip_string_layouts;
-use debug_entries::var_names::skip_var_names;
+use debug_entries::variables::skip_variables;
+use debug_text::COUNT_SIZE;
 use debug_text::DebugFault;
 use debug_text::DebugWalk;
 use line_map::LINE_MAP_ENTRY_SIZE;
@@ -18,27 +19,29 @@ ghost use Rattle.reading.specs.Reader.{many};
 ghost use Rattle.reading.specs.Answer.{itemOf};
 ghost use Rattle.reading.specs.Places.{stepAt, wayAt};
 ghost use Rattle.format.specs.Debug.{line, kindOf};
-ghost use Rattle.format.specs.Load.{debugOf};
-ghost use Rattle.format.specs.Record.{debugCounts};
 ghost use Rattle.debug_text.specs.Answers.{wayOf};
 ghost use Rattle.debug_tables.specs.Starts.{noStarts, isListed, entriesOf, payloadStart, putAs, debugStarts};
-ghost use Rattle.debug_tables.specs.Answers.{kindIn, payloadStep, debugTablesFrom, maybeDebug};
+ghost use Rattle.debug_tables.specs.Counts.{countsRead};
+ghost use Rattle.debug_tables.specs.Answers.{kindIn, payloadStep, debugTablesFrom, debugCountsFrom};
 ghost use Rattle.debug_tables.specs.Laws.{Laws};
 
 const TAG_LINE_MAP: u16 = 1;
 
-const TAG_VAR_NAME: u16 = 2;
+const TAG_VARIABLE: u16 = 2;
 
-const TAG_FUNC_NAME: u16 = 3;
+const TAG_FUNCTION_NAME: u16 = 3;
 
 const TAG_STRING_LAYOUT: u16 = 4;
 
 const TAG_SOURCE_FILE: u16 = 6;
 
-const TAG_ENUM_DEF: u16 = 9;
+const TAG_ENUMERATION: u16 = 9;
 
-// Size of a row: tag, reserved, size.
+// The size of a row: tag 2, reserved 2, size 4.
 const DIR_ENTRY_SIZE: usize = 8;
+
+// Where a row has its size.
+const ROW_SIZE_AT: usize = 4;
 
 // What the payload of a row holds, by the row's tag.
 pub enum TableKind {
@@ -51,7 +54,7 @@ pub enum TableKind {
     Unknown,
 }
 
-// Where the tables in force stand in the section; one that no row has is empty and stands at 0.
+// Where the tables in force stand in the section; a table without a row is empty and at 0.
 pub struct DebugTables {
     pub lines: Table,
     pub variables: Table,
@@ -61,12 +64,12 @@ pub struct DebugTables {
     pub enumerations: Table,
 }
 
-pub enum TablesAnswer {
+pub enum DebugTablesAnswer {
     Fault(DebugFault),
     Tables(DebugTables),
 }
 
-// The payload of a row: where its entries stand if its tag is listed, and the place behind it.
+// The payload of a row: where its entries stand if its tag is listed, and the place after it.
 enum PayloadStep {
     Fault(DebugFault),
     Table(Table, usize),
@@ -82,10 +85,15 @@ pub struct DebugCounts {
     pub enumerations: u16,
 }
 
-// None where the section does not read.
+// What a record holds of them: none where the container loads with no debug.
 pub enum MaybeDebug {
     None,
     Some(DebugCounts),
+}
+
+pub enum DebugCountsAnswer {
+    Fault(DebugFault),
+    Counts(DebugCounts),
 }
 
 fn kind_of(tag: u16) -> TableKind
@@ -93,11 +101,11 @@ fn kind_of(tag: u16) -> TableKind
 {
     match tag {
         TAG_LINE_MAP => TableKind::Lines,
-        TAG_VAR_NAME => TableKind::Variables,
-        TAG_FUNC_NAME => TableKind::Functions,
+        TAG_VARIABLE => TableKind::Variables,
+        TAG_FUNCTION_NAME => TableKind::Functions,
         TAG_STRING_LAYOUT => TableKind::Strings,
         TAG_SOURCE_FILE => TableKind::Files,
-        TAG_ENUM_DEF => TableKind::Enumerations,
+        TAG_ENUMERATION => TableKind::Enumerations,
         _ => TableKind::Unknown,
     }
 }
@@ -116,7 +124,7 @@ fn is_listed(kind: TableKind) -> bool
     }
 }
 
-// A walk over the `n` lines from `at` on, which all have one width.
+// Skips the `n` lines from `at` on, which all have one width.
 fn skip_lines(s: &[u8], at: usize, n: usize) -> DebugWalk
     requires { ⌜ at ≤ length (now s) ⌝ }
     ensures { λ r. ⌜ wayOf r ≡ wayAt (many n line) (now (s .entry)) at ⌝ }
@@ -128,18 +136,18 @@ fn skip_lines(s: &[u8], at: usize, n: usize) -> DebugWalk
     }
 }
 
-// A walk over the `n` entries of a table of that kind from `at` on.
+// Skips the `n` entries from `at` on of a table of that kind.
 fn skip_entries(s: &[u8], at: usize, kind: TableKind, n: usize) -> DebugWalk
     requires { ⌜ at ≤ length (now s) ⌝ }
     ensures { λ r. ⌜ wayOf r ≡ wayAt (entriesOf (kindIn kind) n) (now (s .entry)) at ⌝ }
 {
     match kind {
         TableKind::Lines => skip_lines(s, at, n),
-        TableKind::Variables => skip_var_names(s, 0, at, n),
-        TableKind::Functions => skip_func_names(s, 0, at, n),
+        TableKind::Variables => skip_variables(s, 0, at, n),
+        TableKind::Functions => skip_function_names(s, 0, at, n),
         TableKind::Strings => skip_string_layouts(s, at, n),
         TableKind::Files => skip_source_files(s, 0, at, n),
-        TableKind::Enumerations => skip_enum_defs(s, 0, at, n),
+        TableKind::Enumerations => skip_enumerations(s, 0, at, n),
         TableKind::Unknown => DebugWalk::At(at),
     }
 }
@@ -150,10 +158,10 @@ fn read_payload(s: &[u8], at: usize, kind: TableKind, size: usize) -> PayloadSte
     ensures { λ r. ⌜ payloadStep r ≡ stepAt (payloadStart (kindIn kind) size at) (now (s .entry)) at ⌝ }
 {
     if is_listed(kind) {
-        if s.len() - at < 2 {
+        if s.len() - at < COUNT_SIZE {
             return PayloadStep::Fault(DebugFault::Short);
         }
-        let first = at + 2;
+        let first = at + COUNT_SIZE;
         let count = u16_at(s, at) as usize;
         return match skip_entries(s, first, kind, count) {
             DebugWalk::Fault(e) => PayloadStep::Fault(e),
@@ -166,7 +174,7 @@ fn read_payload(s: &[u8], at: usize, kind: TableKind, size: usize) -> PayloadSte
     PayloadStep::Table(Table { at: 0, count: 0 }, at + size)
 }
 
-// The tables with `t` in force as that of its kind; a later one replaces an earlier, even by an empty one.
+// Puts `t` in force as the table of its kind: a later table of a tag replaces the earlier, even by an empty one.
 fn put(tables: DebugTables, kind: TableKind, t: Table) -> DebugTables
     ensures { λ r. ⌜ r ≡ putAs (kindIn kind) t tables ⌝ }
 {
@@ -210,25 +218,25 @@ fn no_tables() -> DebugTables
 }
 
 // The section's reader: why it does not read, or where its tables in force stand.
-pub fn read_tables(s: &[u8]) -> TablesAnswer
+pub fn read_tables(s: &[u8]) -> DebugTablesAnswer
     ensures { λ r. ⌜ debugTablesFrom r ≡ itemOf (debugStarts (now (s .entry))) ⌝ }
 {
-    if s.len() < 2 {
-        return TablesAnswer::Fault(DebugFault::Short);
+    if s.len() < COUNT_SIZE {
+        return DebugTablesAnswer::Fault(DebugFault::Short);
     }
     let n = u16_at(s, 0) as usize;
-    let mut p = 2 + DIR_ENTRY_SIZE * n;
+    let mut p = COUNT_SIZE + DIR_ENTRY_SIZE * n;
     if s.len() < p {
-        return TablesAnswer::Fault(DebugFault::Short);
+        return DebugTablesAnswer::Fault(DebugFault::Short);
     }
     let mut tables = no_tables();
     let mut i = 0;
     while i < n {
-        let row = 2 + DIR_ENTRY_SIZE * i;
+        let row = COUNT_SIZE + DIR_ENTRY_SIZE * i;
         let kind = kind_of(u16_at(s, row));
-        match read_payload(s, p, kind, u32_at(s, row + 4) as usize) {
+        match read_payload(s, p, kind, u32_at(s, row + ROW_SIZE_AT) as usize) {
             PayloadStep::Fault(e) => {
-                return TablesAnswer::Fault(e);
+                return DebugTablesAnswer::Fault(e);
             }
             PayloadStep::Table(t, m) => {
                 tables = put(tables, kind, t);
@@ -237,16 +245,16 @@ pub fn read_tables(s: &[u8]) -> TablesAnswer
             }
         }
     }
-    TablesAnswer::Tables(tables)
+    DebugTablesAnswer::Tables(tables)
 }
 
-// Whether the section reads, and how many entries its tables have.
-pub fn read_from(s: &[u8]) -> MaybeDebug
-    ensures { λ r. ⌜ maybeDebug r ≡ debugCounts (debugOf (now (s .entry))) ⌝ }
+// The section's reader by its counts: why it does not read, or how many entries its tables have.
+pub fn read_from(s: &[u8]) -> DebugCountsAnswer
+    ensures { λ r. ⌜ debugCountsFrom r ≡ countsRead (now (s .entry)) ⌝ }
 {
     match read_tables(s) {
-        TablesAnswer::Fault(_) => MaybeDebug::None,
-        TablesAnswer::Tables(t) => MaybeDebug::Some(DebugCounts {
+        DebugTablesAnswer::Fault(e) => DebugCountsAnswer::Fault(e),
+        DebugTablesAnswer::Tables(t) => DebugCountsAnswer::Counts(DebugCounts {
             lines: t.lines.count as u16,
             variables: t.variables.count as u16,
             functions: t.functions.count as u16,
@@ -257,7 +265,7 @@ pub fn read_from(s: &[u8]) -> MaybeDebug
     }
 }
 
-// The claims of `specs/Laws.antt` hold. There is no code: the contract makes the check prove them.
+// The claims of `specs/Laws.antt` hold. Empty body: the contract makes the checker prove them.
 pub fn laws_hold()
     ensures { λ _. ⌜ Laws ⌝ }
 {}

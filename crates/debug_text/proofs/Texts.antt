@@ -6,7 +6,7 @@ use Prim.Native.Nat.{ℕ, _+_, _-_, _≤_, _<_}
 use native.Mathlib.Omega.{arith}
 use lib.ListN.{length, take, drop, length-drop}
 use borrow.Author.Tests.{eq-eqb, ne-eqb}
-use Rattle.utf8.specs.Utf8.{goodLength, utf8}
+use Rattle.utf8.specs.Utf8.{validUpTo, utf8}
 use Rattle.utf8.proofs.Longest.{laws}
 use Rattle.reading.specs.Fault.{Fault, shortInput, badText}
 use Rattle.reading.specs.Numbers.{leAt}
@@ -28,32 +28,32 @@ module _ (base : ℕ) (s : List ℕ) (at n : ℕ) where
 
   module _ (h : at + n ≤ length s) where
     -- the good start of the text that stands there
-    pub good-most : goodLength (take n (drop at s)) ≤ n
-    good-most = let l = length-part s at n h in rw l at (laws .longest-good-start (take n (drop at s)) .within)
+    pub good-most : validUpTo (take n (drop at s)) ≤ n
+    good-most = let l = length-part s at n h in rw l at (laws .longest-valid-start (take n (drop at s)) .within)
 
-    pub text-good : n ≤ goodLength (take n (drop at s)) → text (keepIn base s) n (drop at s) ≡ got (record { offset = base + at; size = n }) (drop (at + n) s)
+    pub text-good : n ≤ validUpTo (take n (drop at s)) → text (keepIn base s) n (drop at s) ≡ got (record { offset = base + at; size = n }) (drop (at + n) s)
     unfolding text utf8
     text-good g =
         let l = length-part s at n h in
         let d = length-drop at s in
         let m = good-most in
         let z : base + length s - (length s - at - n) - n ≡ base + at = omega arith in
-        rw (bytes-at n s at (at + n) refl h, eq-eqb (goodLength (take n (drop at s))) (length (take n (drop at s))) (omega arith), d, l, z)
+        rw (bytes-at n s at (at + n) refl h, eq-eqb (validUpTo (take n (drop at s))) (length (take n (drop at s))) (omega arith), d, l, z)
 
-    pub text-bad : goodLength (take n (drop at s)) < n → text (keepIn base s) n (drop at s) ≡ fault (badText (length s - at - goodLength (take n (drop at s))))
+    pub text-bad : validUpTo (take n (drop at s)) < n → text (keepIn base s) n (drop at s) ≡ fault (badText (length s - at - validUpTo (take n (drop at s))))
     unfolding text utf8
     text-bad g =
         let l = length-part s at n h in
-        rw (bytes-at n s at (at + n) refl h, ne-eqb (goodLength (take n (drop at s))) (length (take n (drop at s))) (λ e. omega arith), length-drop at s)
+        rw (bytes-at n s at (at + n) refl h, ne-eqb (validUpTo (take n (drop at s))) (length (take n (drop at s))) (λ e. omega arith), length-drop at s)
 
--- a text's place ends where reading goes on
+-- a text's place ends where reading continues
 pub text-ends : (base : ℕ) (s x : List ℕ) (n : ℕ) (q : Place) (t : List ℕ) → length x ≤ length s → text (keepIn base s) n x ≡ got q t → q .offset + q .size + length t ≡ base + length s
 unfolding text
 text-ends base s x n q t h e =
     let b = both (bytes n x) e in
     let u = b .item in
-    let c = both (check (utf8 u) (badText (length x - goodLength u)) (b .middle)) (b .second) in
-    let p = checked-on (utf8 u) (badText (length x - goodLength u)) (b .middle) (c .first) in
+    let c = both (check (utf8 u) (badText (length x - validUpTo u)) (b .middle)) (b .second) in
+    let p = checked-on (utf8 u) (badText (length x - validUpTo u)) (b .middle) (c .first) in
     let w = fixed-width (fixed-bytes n) .takes x u (b .middle) (b .first) in
     let l = bytes-length n x u (b .middle) (b .first) in
     let d = ap length (w .0) ∙ length-drop n x in
@@ -78,14 +78,14 @@ name-ends base s at q m g =
     let i = g .0 in
     omega arith
 
--- what is left behind a text is left of the section
+-- what a text leaves is left of the section
 module _ {T : Type 0} (keep : Keep T) (s : List ℕ) where
   pub stays-text : (n : ℕ) → Stays s (text keep n)
   unfolding text
   stays-text n =
       stays-bind s (stays-left s) λ whole.
       stays-bind s (stays-local s (local-bytes n)) λ t.
-      stays-bind s (stays-local s (local-check (utf8 t) (badText (whole - goodLength t)))) λ u. stays-local s (local-give (keep t (whole - n)))
+      stays-bind s (stays-local s (local-check (utf8 t) (badText (whole - validUpTo t)))) λ u. stays-local s (local-give (keep t (whole - n)))
 
   pub stays-name : Stays s (name keep)
   unfolding name
@@ -95,7 +95,7 @@ module _ {T : Type 0} (keep : Keep T) (s : List ℕ) where
   unfolding path
   stays-path = stays-bind s (stays-local s (local-number 2)) stays-text
 
--- a length, and the text behind it
+-- a length, then the text
 module _ {T : Type 0} (keep : Keep T) where
   pub name-needs : Needs 1 (name keep)
   unfolding name

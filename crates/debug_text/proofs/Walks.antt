@@ -1,5 +1,5 @@
--- What the lookups in every table cite, over any reader of entries: each takes what was read at a place as its contract gives it, and what a
--- `match` on the answer told.
+-- What the lookups in every table cite, over any reader of entries: each takes what was read at a place, as its contract gives it, and the case of
+-- the answer that a `match` found.
 use mathlib.Core.Path.{_≡_, refl, sym}
 use mathlib.Core.Bool.{Bool, true, false, cond}
 use mathlib.Core.List.{List, map}
@@ -31,7 +31,7 @@ module _ {A : Type 0} (r : Reader A) (s : List ℕ) where
   reads-as at q to (stops f) e g = rw e g
   reads-as at q to (item a m) e g = (g .0, rw e (g .1))
 
-  -- a reader that reads on by another: where that stops, and where it gives the last item
+  -- a reader that continues with another: where that stops, and where it gives the last item
   pub reads-stop : {B : Type 0} (at : ℕ) (q : Reader B) (to : ℕ) (go : B → Reader A) (f : Fault) {v : Step B} → r (drop at s) ≡ next (q (drop to s)) go → v ≡ stops f
       → Reads q s to v → r (drop at s) ≡ fault f
   reads-stop at q to go f d e g = rw (d, reads-told q s to e g)

@@ -14,12 +14,12 @@ use Rattle.debug_text.specs.declared.DebugWalk.{DebugWalk}
 use Rattle.debug_text.specs.declared.DebugWalk.the-variants as walk
 use Rattle.debug_text.specs.declared.TextStep.{TextStep}
 use Rattle.debug_text.specs.declared.TextStep.the-variants as stepText
-use Rattle.debug_text.specs.declared.NameAnswer.{NameAnswer}
-use Rattle.debug_text.specs.declared.NameAnswer.the-variants as answerName
-use Rattle.debug_text.specs.declared.NameNext.{NameNext}
-use Rattle.debug_text.specs.declared.NameNext.the-variants as nextName
+use Rattle.debug_text.specs.declared.NameFound.{NameFound}
+use Rattle.debug_text.specs.declared.NameFound.the-variants as foundName
+use Rattle.debug_text.specs.declared.NameWalk.{NameWalk}
+use Rattle.debug_text.specs.declared.NameWalk.the-variants as walkName
 
--- the places of a section `s` at `base`, as those of every section of a file, can be added up without a wrap
+-- no place of the section `s` at `base` of the file overflows; this holds of every section of a file
 abbrev pub InFile : ℕ → List ℕ → Type 0
 InFile base s = base + length s < 2 ^ 64
 
@@ -27,7 +27,7 @@ InFile base s = base + length s < 2 ^ 64
 abbrev pub keepIn : ℕ → List ℕ → Keep Place
 keepIn base s = byPlace (record { offset = base; size = length s })
 
--- a fault never leaves the section: one that does not read is 15
+-- the fault stays inside the reader: lookups answer 15 for a section that does not read
 abbrev pub debugFaultOf : DebugFault → Fault
 debugFaultOf debugFault.Short = shortInput
 debugFaultOf (debugFault.BadText n) = badText n
@@ -42,12 +42,12 @@ abbrev pub textStep : TextStep → Step Place
 textStep (stepText.Fault e) = stops (debugFaultOf e)
 textStep (stepText.Text x m) = item (partIn x) m
 
-abbrev pub nameFrom : NameAnswer → Got Place
-nameFrom (answerName.Fault e) = refused (debugFaultOf e)
-nameFrom answerName.NoEntry = refused noEntry
-nameFrom (answerName.Name x) = found (partIn x)
+abbrev pub nameFound : NameFound → Got Place
+nameFound (foundName.Fault e) = refused (debugFaultOf e)
+nameFound foundName.NoEntry = refused noEntry
+nameFound (foundName.Name x) = found (partIn x)
 
-abbrev pub nameNext : NameNext → Next Place
-nameNext nextName.End = ends
-nameNext (nextName.Fault e) = faulty (debugFaultOf e)
-nameNext (nextName.Name x t) = entry (partIn x) t
+abbrev pub nameWalk : NameWalk → Next Place
+nameWalk walkName.End = ends
+nameWalk (walkName.Fault e) = faulty (debugFaultOf e)
+nameWalk (walkName.Name x t) = entry (partIn x) t

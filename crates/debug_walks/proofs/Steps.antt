@@ -10,7 +10,7 @@ use Rattle.reading.specs.declared.Table.{Table}
 use Rattle.format.specs.Parts.{Place, Keep, byPlace}
 use Rattle.base.proofs.FileLookups.{sliced}
 use Rattle.debug_text.specs.Answers.{keepIn}
-use Rattle.debug_entries.specs.Answers.{EnumerationEntry, enumerationEntry}
+use Rattle.debug_entries.specs.Answers.{EnumerationWithValues, enumerationEntry}
 use Rattle.debug_section.specs.Lookups.{debugPart}
 use Rattle.debug_section.proofs.Parts.{in-part, moved}
 use Rattle.debug_walks.specs.Steps.{noDebugStep, debugStepBy, debugStepAt}
@@ -26,7 +26,7 @@ module _ (f : List ℕ) (p : Place) where
       ap noDebugStep (moved f p (g .same) (g .inside) (λ keep s. x ≡ stepOf (r keep) s t) h) ∙ sym (ap (λ (y : Got Place). debugStepBy f y (r (byPlace p)) t) (g .part))
 
   -- an enumeration, with the table of its values' names
-  pub entry-found : (t : Table) {q : Place} {x : Next EnumerationEntry} → found q ≡ debugPart f p
+  pub entry-found : (t : Table) {q : Place} {x : Next EnumerationWithValues} → found q ≡ debugPart f p
       → x ≡ stepOf (enumerationEntry (q .offset) (keepIn (q .offset) (sliced f q))) (sliced f q) t → noDebugStep x ≡ debugStepAt f p (enumerationEntry (p .offset) (byPlace p)) t
   entry-found t {q} k h =
       let e = ap (λ (y : Place). y .offset) (in-part f p k .same) in

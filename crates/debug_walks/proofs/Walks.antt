@@ -25,7 +25,7 @@ use Rattle.debug_walks.specs.Laws.{Walks, Laws}
 use Rattle.debug_section.proofs.Parts.{moved, tables-found}
 
 module _ {A : Type 0} where
-  -- no step is left behind a table's last entry
+  -- no step is left after a table's last entry
   none-left : (r : Reader A) (s : List ℕ) (step : Table → Next A) → ((u : Table) → step u ≡ noDebugStep (stepOf r s u)) → (n : ℕ) (t : Table) → t .count ≡ 0 → driven step n t ≡ found []
   none-left r s step h zero t z = refl
   none-left r s step h (suc n) t z = rw (h t, ← step-ends r s t z)

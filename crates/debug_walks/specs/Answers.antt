@@ -4,15 +4,15 @@ use Rattle.format.specs.Parts.{Place}
 use Rattle.format.specs.Debug.{Variable, FunctionName, StringLayout, SourceFile}
 use Rattle.base.specs.Error.{faultOf}
 use Rattle.base.specs.Section.{partIn}
-use Rattle.debug_entries.specs.Answers.{varNameIn, funcNameIn, stringLayoutIn, sourceFileIn, EnumerationEntry, enumDefIn}
+use Rattle.debug_entries.specs.Answers.{variableIn, functionNameIn, stringLayoutIn, sourceFileIn, EnumerationWithValues, enumerationIn}
 use Rattle.debug_walks.specs.declared.VariableNext.{VariableNext}
 use Rattle.debug_walks.specs.declared.VariableNext.the-variants as variableNext
 use Rattle.debug_walks.specs.declared.FunctionNameNext.{FunctionNameNext}
 use Rattle.debug_walks.specs.declared.FunctionNameNext.the-variants as functionNameNext
-use Rattle.debug_walks.specs.declared.LayoutNext.{LayoutNext}
-use Rattle.debug_walks.specs.declared.LayoutNext.the-variants as layoutNext
-use Rattle.debug_walks.specs.declared.SourceNext.{SourceNext}
-use Rattle.debug_walks.specs.declared.SourceNext.the-variants as sourceNext
+use Rattle.debug_walks.specs.declared.StringLayoutNext.{StringLayoutNext}
+use Rattle.debug_walks.specs.declared.StringLayoutNext.the-variants as layoutNext
+use Rattle.debug_walks.specs.declared.SourceFileNext.{SourceFileNext}
+use Rattle.debug_walks.specs.declared.SourceFileNext.the-variants as sourceNext
 use Rattle.debug_walks.specs.declared.EnumerationNext.{EnumerationNext}
 use Rattle.debug_walks.specs.declared.EnumerationNext.the-variants as enumerationNext
 use Rattle.debug_walks.specs.declared.ValueNext.{ValueNext}
@@ -21,27 +21,27 @@ use Rattle.debug_walks.specs.declared.ValueNext.the-variants as valueNex
 abbrev pub variableNextFrom : VariableNext → Next (Variable Place)
 variableNextFrom variableNext.End = ends
 variableNextFrom (variableNext.Refused e) = faulty (faultOf e)
-variableNextFrom (variableNext.Entry x t) = entry (varNameIn x) t
+variableNextFrom (variableNext.Entry x t) = entry (variableIn x) t
 
 abbrev pub functionNameNextFrom : FunctionNameNext → Next (FunctionName Place)
 functionNameNextFrom functionNameNext.End = ends
 functionNameNextFrom (functionNameNext.Refused e) = faulty (faultOf e)
-functionNameNextFrom (functionNameNext.Entry x t) = entry (funcNameIn x) t
+functionNameNextFrom (functionNameNext.Entry x t) = entry (functionNameIn x) t
 
-abbrev pub layoutNextFrom : LayoutNext → Next StringLayout
+abbrev pub layoutNextFrom : StringLayoutNext → Next StringLayout
 layoutNextFrom layoutNext.End = ends
 layoutNextFrom (layoutNext.Refused e) = faulty (faultOf e)
 layoutNextFrom (layoutNext.Entry x t) = entry (stringLayoutIn x) t
 
-abbrev pub sourceNextFrom : SourceNext → Next (SourceFile Place)
+abbrev pub sourceNextFrom : SourceFileNext → Next (SourceFile Place)
 sourceNextFrom sourceNext.End = ends
 sourceNextFrom (sourceNext.Refused e) = faulty (faultOf e)
 sourceNextFrom (sourceNext.Entry x t) = entry (sourceFileIn x) t
 
-abbrev pub enumerationNextFrom : EnumerationNext → Next EnumerationEntry
+abbrev pub enumerationNextFrom : EnumerationNext → Next EnumerationWithValues
 enumerationNextFrom enumerationNext.End = ends
 enumerationNextFrom (enumerationNext.Refused e) = faulty (faultOf e)
-enumerationNextFrom (enumerationNext.Entry x t) = entry (enumDefIn x) t
+enumerationNextFrom (enumerationNext.Entry x t) = entry (enumerationIn x) t
 
 abbrev pub valueNextFrom : ValueNext → Next Place
 valueNextFrom valueNext.End = ends

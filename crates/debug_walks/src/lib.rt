@@ -1,26 +1,26 @@
-// Walks over the tables in force of the debug section, entry by entry. A walk starts at a table that `debug_section::tables` tells; a step is total over
+// Walks over the tables in force of the debug section, entry by entry. A walk starts at a table that `debug_section::tables` answers; a step is total over
 // any file, place and table: 10 over the file's limit, 15 where the section does not lie in the file behind the header or the entry does not read.
 use base::error::ContainerError;
 use base::section::Part;
 use base::section::PartAnswer;
 use base::section::Section;
-use debug_entries::enum_defs;
-use debug_entries::enum_defs::EnumDefEntry;
-use debug_entries::enum_defs::EnumDefNext;
-use debug_entries::func_names;
-use debug_entries::func_names::FuncNameEntry;
-use debug_entries::func_names::FuncNameNext;
+use debug_entries::enumerations;
+use debug_entries::enumerations::EnumerationEntry;
+use debug_entries::enumerations::EnumerationWalk;
+use debug_entries::function_names;
+use debug_entries::function_names::FunctionNameEntry;
+use debug_entries::function_names::FunctionNameWalk;
 use debug_entries::source_files;
 use debug_entries::source_files::SourceFileEntry;
-use debug_entries::source_files::SourceFileNext;
+use debug_entries::source_files::SourceFileWalk;
 use debug_entries::string_layouts;
 use debug_entries::string_layouts::StringLayoutEntry;
-use debug_entries::string_layouts::StringLayoutNext;
-use debug_entries::var_names;
-use debug_entries::var_names::VarNameEntry;
-use debug_entries::var_names::VarNameNext;
+use debug_entries::string_layouts::StringLayoutWalk;
+use debug_entries::variables;
+use debug_entries::variables::VariableEntry;
+use debug_entries::variables::VariableWalk;
 use debug_section::debug_part;
-use debug_text::NameNext;
+use debug_text::NameWalk;
 use debug_text::next_name;
 use line_map::LineNext;
 use reading::Table;
@@ -34,26 +34,26 @@ ghost use Rattle.debug_entries.specs.Answers.{enumerationEntry};
 ghost use Rattle.debug_walks.specs.Answers.{variableNextFrom, functionNameNextFrom, layoutNextFrom, sourceNextFrom, enumerationNextFrom, valueNextFrom};
 ghost use Rattle.debug_walks.specs.Laws.{Laws};
 
-// One step of a walk over a table: the next entry, and the entries behind it.
+// One step of a walk over a table: the next entry, and the entries after it.
 pub enum VariableNext {
     End,
     Refused(ContainerError),
-    Entry(VarNameEntry, Table),
+    Entry(VariableEntry, Table),
 }
 
 pub enum FunctionNameNext {
     End,
     Refused(ContainerError),
-    Entry(FuncNameEntry, Table),
+    Entry(FunctionNameEntry, Table),
 }
 
-pub enum LayoutNext {
+pub enum StringLayoutNext {
     End,
     Refused(ContainerError),
     Entry(StringLayoutEntry, Table),
 }
 
-pub enum SourceNext {
+pub enum SourceFileNext {
     End,
     Refused(ContainerError),
     Entry(SourceFileEntry, Table),
@@ -62,7 +62,7 @@ pub enum SourceNext {
 pub enum EnumerationNext {
     End,
     Refused(ContainerError),
-    Entry(EnumDefEntry, Table),
+    Entry(EnumerationEntry, Table),
 }
 
 pub enum ValueNext {
@@ -98,10 +98,10 @@ pub fn next_variable(file: &[u8], section: Section, t: Table) -> VariableNext
         PartAnswer::Part(p) => {
             let start = p.offset;
             let end = start + p.size;
-            match var_names::next_var_name(&file[start..end], start, t) {
-                VarNameNext::End => VariableNext::End,
-                VarNameNext::Fault(_) => VariableNext::Refused(ContainerError::NoDebug),
-                VarNameNext::Entry(x, rest) => VariableNext::Entry(x, rest),
+            match variables::next_variable_in(&file[start..end], start, t) {
+                VariableWalk::End => VariableNext::End,
+                VariableWalk::Fault(_) => VariableNext::Refused(ContainerError::NoDebug),
+                VariableWalk::Entry(x, rest) => VariableNext::Entry(x, rest),
             }
         }
     }
@@ -116,46 +116,46 @@ pub fn next_function_name(file: &[u8], section: Section, t: Table) -> FunctionNa
         PartAnswer::Part(p) => {
             let start = p.offset;
             let end = start + p.size;
-            match func_names::next_func_name(&file[start..end], start, t) {
-                FuncNameNext::End => FunctionNameNext::End,
-                FuncNameNext::Fault(_) => FunctionNameNext::Refused(ContainerError::NoDebug),
-                FuncNameNext::Entry(x, rest) => FunctionNameNext::Entry(x, rest),
+            match function_names::next_function_name_in(&file[start..end], start, t) {
+                FunctionNameWalk::End => FunctionNameNext::End,
+                FunctionNameWalk::Fault(_) => FunctionNameNext::Refused(ContainerError::NoDebug),
+                FunctionNameWalk::Entry(x, rest) => FunctionNameNext::Entry(x, rest),
             }
         }
     }
 }
 
 // The next string layout of a walk.
-pub fn next_string_layout(file: &[u8], section: Section, t: Table) -> LayoutNext
+pub fn next_string_layout(file: &[u8], section: Section, t: Table) -> StringLayoutNext
     ensures { λ r. ⌜ layoutNextFrom r ≡ debugStepAt (now (file .entry)) (placeIn section) stringLayout t ⌝ }
 {
     match debug_part(file, section) {
-        PartAnswer::Refused(e) => LayoutNext::Refused(e),
+        PartAnswer::Refused(e) => StringLayoutNext::Refused(e),
         PartAnswer::Part(p) => {
             let start = p.offset;
             let end = start + p.size;
-            match string_layouts::next_string_layout(&file[start..end], t) {
-                StringLayoutNext::End => LayoutNext::End,
-                StringLayoutNext::Fault(_) => LayoutNext::Refused(ContainerError::NoDebug),
-                StringLayoutNext::Entry(x, rest) => LayoutNext::Entry(x, rest),
+            match string_layouts::next_string_layout_in(&file[start..end], t) {
+                StringLayoutWalk::End => StringLayoutNext::End,
+                StringLayoutWalk::Fault(_) => StringLayoutNext::Refused(ContainerError::NoDebug),
+                StringLayoutWalk::Entry(x, rest) => StringLayoutNext::Entry(x, rest),
             }
         }
     }
 }
 
 // The next source file of a walk.
-pub fn next_source_file(file: &[u8], section: Section, t: Table) -> SourceNext
+pub fn next_source_file(file: &[u8], section: Section, t: Table) -> SourceFileNext
     ensures { λ r. ⌜ sourceNextFrom r ≡ debugStepAt (now (file .entry)) (placeIn section) (sourceFile (byPlace (placeIn section))) t ⌝ }
 {
     match debug_part(file, section) {
-        PartAnswer::Refused(e) => SourceNext::Refused(e),
+        PartAnswer::Refused(e) => SourceFileNext::Refused(e),
         PartAnswer::Part(p) => {
             let start = p.offset;
             let end = start + p.size;
-            match source_files::next_source_file(&file[start..end], start, t) {
-                SourceFileNext::End => SourceNext::End,
-                SourceFileNext::Fault(_) => SourceNext::Refused(ContainerError::NoDebug),
-                SourceFileNext::Entry(x, rest) => SourceNext::Entry(x, rest),
+            match source_files::next_source_file_in(&file[start..end], start, t) {
+                SourceFileWalk::End => SourceFileNext::End,
+                SourceFileWalk::Fault(_) => SourceFileNext::Refused(ContainerError::NoDebug),
+                SourceFileWalk::Entry(x, rest) => SourceFileNext::Entry(x, rest),
             }
         }
     }
@@ -170,10 +170,10 @@ pub fn next_enumeration(file: &[u8], section: Section, t: Table) -> EnumerationN
         PartAnswer::Part(p) => {
             let start = p.offset;
             let end = start + p.size;
-            match enum_defs::next_enum_def(&file[start..end], start, t) {
-                EnumDefNext::End => EnumerationNext::End,
-                EnumDefNext::Fault(_) => EnumerationNext::Refused(ContainerError::NoDebug),
-                EnumDefNext::Entry(x, rest) => EnumerationNext::Entry(x, rest),
+            match enumerations::next_enumeration_in(&file[start..end], start, t) {
+                EnumerationWalk::End => EnumerationNext::End,
+                EnumerationWalk::Fault(_) => EnumerationNext::Refused(ContainerError::NoDebug),
+                EnumerationWalk::Entry(x, rest) => EnumerationNext::Entry(x, rest),
             }
         }
     }
@@ -189,15 +189,15 @@ pub fn next_value(file: &[u8], section: Section, t: Table) -> ValueNext
             let start = p.offset;
             let end = start + p.size;
             match next_name(&file[start..end], start, t) {
-                NameNext::End => ValueNext::End,
-                NameNext::Fault(_) => ValueNext::Refused(ContainerError::NoDebug),
-                NameNext::Name(x, rest) => ValueNext::Name(x, rest),
+                NameWalk::End => ValueNext::End,
+                NameWalk::Fault(_) => ValueNext::Refused(ContainerError::NoDebug),
+                NameWalk::Name(x, rest) => ValueNext::Name(x, rest),
             }
         }
     }
 }
 
-// The claims of `specs/Laws.antt` hold. There is no code: the contract makes the check prove them.
+// The claims of `specs/Laws.antt` hold. Empty body: the contract makes the checker prove them.
 pub fn laws_hold()
     ensures { λ _. ⌜ Laws ⌝ }
 {}

@@ -1,4 +1,4 @@
--- A constant of the code with its bytes.
+-- A constant as the code returns it, with its bytes.
 use Prim.Native.Nat.{ℕ}
 use mathlib.Core.List.{List}
 use Rattle.format.specs.Constants.{Constant, onConstant}
@@ -6,6 +6,6 @@ use Rattle.base.specs.Section.{bytesOf}
 use Rattle.constant_pool.specs.Answers.{constIn}
 use Rattle.constant_pool.specs.declared.ConstEntry.{ConstEntry}
 
--- a string's are those of its part of the file
+-- those of a string are its part of the file
 abbrev pub withBytes : List ℕ → ConstEntry → Constant (List ℕ)
 withBytes file c = onConstant (bytesOf file) (constIn c)

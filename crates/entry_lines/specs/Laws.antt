@@ -1,4 +1,4 @@
--- A constant whose part lies in the file, as in every entry that `constant_pool` answers, has the bytes that the format gives it.
+-- A constant whose part lies in the file, as in every entry that `constant_pool` returns, has the bytes that the format gives it.
 use Prim.Native.Nat.{ℕ}
 use mathlib.Core.List.{List}
 use mathlib.Core.Path.{_≡_}

@@ -1,5 +1,5 @@
--- The lines of the lister for the entries of tables (document 01, "Mill file M", "Fields: .."): a word for the kind of entry, then its
--- fields in file order without reserved ones. Numbers are decimal, kept bytes hexadecimal.
+-- The lister's lines for the entries of tables (document 01, "Mill file M": "entries in file order, fields in file order without reserved ones"):
+-- a word for the kind of entry, then its fields. "Numbers are decimal, kept bytes hexadecimal."
 use Prim.Native.Nat.{ℕ}
 use mathlib.Core.List.{List, [], _∷_}
 use Rattle.reading.specs.Answer.{Got, refused, found}
@@ -29,7 +29,7 @@ fbTypeLine b = line (ascii "fbtype") (b .id ∷ b .fieldCount ∷ [])
 abbrev pub fieldLine : Field → List ℕ
 fieldLine f = line (ascii "field") (f .kind ∷ f .extra ∷ [])
 
--- index, type, elements, extra, stride, byte size ("-" on overflow)
+-- "An array line has index, type, elements, extra, stride, byte size (`-` on overflow)."
 abbrev pub sizedLine : ℕ → Array → Got ℕ → List ℕ
 sizedLine i a (refused f) = dashLine (ascii "array") (i ∷ a .kind ∷ a .elements ∷ a .extra ∷ a .stride ∷ [])
 sizedLine i a (found size) = line (ascii "array") (i ∷ a .kind ∷ a .elements ∷ a .extra ∷ a .stride ∷ size ∷ [])
@@ -41,7 +41,7 @@ arrayLine i a = sizedLine i a (byteSize a)
 abbrev pub userFbLine : UserFb → List ℕ
 userFbLine u = line (ascii "userfb") (u .id ∷ u .function ∷ u .variableOffset ∷ u .fieldCount ∷ [])
 
--- index, type, kept bytes ("-" if none)
+-- "A constant line has index, type, kept bytes (`-` if none)."
 abbrev pub keptBytes : Kept (List ℕ) → List ℕ
 keptBytes (number b) = b
 keptBytes (string b) = b
@@ -49,7 +49,7 @@ keptBytes (string b) = b
 abbrev pub constantLine : ℕ → Constant (List ℕ) → List ℕ
 constantLine i c = bytesLine (ascii "constant") (i ∷ c .kind ∷ []) (keptBytes (c .kept))
 
--- the stored id stands in front
+-- the stored id comes first
 abbrev pub functionLine : Function → List ℕ
 functionLine f = line (ascii "function") (f .id ∷ f .offset ∷ f .size ∷ f .maxStackDepth ∷ f .locals ∷ f .parameters ∷ [])
 

@@ -1,7 +1,8 @@
-// The lines of the lister for the entries of a file's tables, one function for each kind. Each puts its line at the place `at` of the
-// lent buffer, if it fits, and answers the place behind it.
+// The lister's lines for the entries of a file's tables, one function for each kind of entry. Each writes its line at the place `at` of the lent
+// buffer, if it fits, and returns the place behind it.
 ghost use mathlib.Core.List.{[], _∷_};
-ghost use Rattle.text.specs.Text.{ascii, bytesLine, PutsLine};
+ghost use Rattle.lent.specs.Output.{Puts};
+ghost use Rattle.text.specs.Text.{ascii, bytesLine};
 ghost use Rattle.task_table.specs.Answers.{taskIn, programIn};
 ghost use Rattle.type_entries.specs.Answers.{fbTypeHeadIn, fieldIn, arrayIn, userFbIn};
 ghost use Rattle.code_section.specs.Answers.{funcIn};
@@ -13,10 +14,10 @@ use code_section::FuncEntry;
 use constant_pool::ConstEntry;
 use constant_pool::Kept;
 use constant_pool::number_bytes;
+use lent::Put;
 use line_map::LineMapEntry;
 use task_table::ProgramInstanceEntry;
 use task_table::TaskEntry;
-use text::Put;
 use text::put_bytes_line;
 use text::put_dash_line;
 use text::put_line;
@@ -27,7 +28,7 @@ use type_entries::SizeAnswer;
 use type_entries::UserFbDescriptor;
 
 pub fn put_task(out: &mut [u8], at: usize, t: TaskEntry) -> Put
-    ensures { λ r. ⌜ PutsLine (now (out .entry)) at (taskLine (taskIn t)) (now (out .exit)) r ⌝ }
+    ensures { λ r. ⌜ Puts (now (out .entry)) at (taskLine (taskIn t)) (now (out .exit)) r ⌝ }
 {
     let task_type = t.task_type;
     let ns = [
@@ -45,7 +46,7 @@ pub fn put_task(out: &mut [u8], at: usize, t: TaskEntry) -> Put
 }
 
 pub fn put_program(out: &mut [u8], at: usize, p: ProgramInstanceEntry) -> Put
-    ensures { λ r. ⌜ PutsLine (now (out .entry)) at (programLine (programIn p)) (now (out .exit)) r ⌝ }
+    ensures { λ r. ⌜ Puts (now (out .entry)) at (programLine (programIn p)) (now (out .exit)) r ⌝ }
 {
     let ns = [
         p.instance_id.0 as u64,
@@ -61,23 +62,23 @@ pub fn put_program(out: &mut [u8], at: usize, p: ProgramInstanceEntry) -> Put
 }
 
 pub fn put_fb_type(out: &mut [u8], at: usize, b: FbTypeDescriptor) -> Put
-    ensures { λ r. ⌜ PutsLine (now (out .entry)) at (fbTypeLine (fbTypeHeadIn b)) (now (out .exit)) r ⌝ }
+    ensures { λ r. ⌜ Puts (now (out .entry)) at (fbTypeLine (fbTypeHeadIn b)) (now (out .exit)) r ⌝ }
 {
     let ns = [b.type_id.0 as u64, b.num_fields as u64];
     put_line(out, at, b"fbtype", &ns)
 }
 
 pub fn put_field(out: &mut [u8], at: usize, f: FieldEntry) -> Put
-    ensures { λ r. ⌜ PutsLine (now (out .entry)) at (fieldLine (fieldIn f)) (now (out .exit)) r ⌝ }
+    ensures { λ r. ⌜ Puts (now (out .entry)) at (fieldLine (fieldIn f)) (now (out .exit)) r ⌝ }
 {
     let field_type = f.field_type;
     let ns = [field_type.number() as u64, f.field_extra as u64];
     put_line(out, at, b"field", &ns)
 }
 
-// An array, by its index, with the bytes of all its elements, or a dash if they are too many.
+// An array, by its index, with the byte size of all its elements, or a dash on overflow.
 pub fn put_array(out: &mut [u8], at: usize, index: usize, a: ArrayDescriptor) -> Put
-    ensures { λ r. ⌜ PutsLine (now (out .entry)) at (arrayLine index (arrayIn a)) (now (out .exit)) r ⌝ }
+    ensures { λ r. ⌜ Puts (now (out .entry)) at (arrayLine index (arrayIn a)) (now (out .exit)) r ⌝ }
 {
     let size = a.byte_size();
     let index = index as u64;
@@ -98,7 +99,7 @@ pub fn put_array(out: &mut [u8], at: usize, index: usize, a: ArrayDescriptor) ->
 }
 
 pub fn put_user_fb(out: &mut [u8], at: usize, u: UserFbDescriptor) -> Put
-    ensures { λ r. ⌜ PutsLine (now (out .entry)) at (userFbLine (userFbIn u)) (now (out .exit)) r ⌝ }
+    ensures { λ r. ⌜ Puts (now (out .entry)) at (userFbLine (userFbIn u)) (now (out .exit)) r ⌝ }
 {
     let ns = [
         u.type_id.0 as u64,
@@ -109,17 +110,17 @@ pub fn put_user_fb(out: &mut [u8], at: usize, u: UserFbDescriptor) -> Put
     put_line(out, at, b"userfb", &ns)
 }
 
-// A constant's line, by its index and type, with its kept bytes.
+// A constant's line: its index, its type and its kept bytes.
 fn put_kept(out: &mut [u8], at: usize, index: usize, kind: u8, bytes: &[u8]) -> Put
-    ensures { λ r. ⌜ PutsLine (now (out .entry)) at (bytesLine (ascii "constant") (index ∷ kind ∷ []) (now (bytes .entry))) (now (out .exit)) r ⌝ }
+    ensures { λ r. ⌜ Puts (now (out .entry)) at (bytesLine (ascii "constant") (index ∷ kind ∷ []) (now (bytes .entry))) (now (out .exit)) r ⌝ }
 {
     let ns = [index as u64, kind as u64];
     put_bytes_line(out, at, b"constant", &ns, bytes)
 }
 
-// A constant, by its index, with its kept bytes; a string's are a part of the file.
+// A constant, by its index, with its kept bytes; those of a string are a part of the file.
 pub fn put_constant(out: &mut [u8], at: usize, index: usize, c: ConstEntry, file: &[u8]) -> Put
-    ensures { λ r. ⌜ PutsLine (now (out .entry)) at (constantLine index (withBytes (now (file .entry)) c)) (now (out .exit)) r ⌝ }
+    ensures { λ r. ⌜ Puts (now (out .entry)) at (constantLine index (withBytes (now (file .entry)) c)) (now (out .exit)) r ⌝ }
 {
     let const_type = c.const_type;
     let kind = const_type.number();
@@ -137,7 +138,7 @@ pub fn put_constant(out: &mut [u8], at: usize, index: usize, c: ConstEntry, file
 }
 
 pub fn put_function(out: &mut [u8], at: usize, f: FuncEntry) -> Put
-    ensures { λ r. ⌜ PutsLine (now (out .entry)) at (functionLine (funcIn f)) (now (out .exit)) r ⌝ }
+    ensures { λ r. ⌜ Puts (now (out .entry)) at (functionLine (funcIn f)) (now (out .exit)) r ⌝ }
 {
     let ns = [
         f.function_id.0 as u64,
@@ -151,7 +152,7 @@ pub fn put_function(out: &mut [u8], at: usize, f: FuncEntry) -> Put
 }
 
 pub fn put_line_entry(out: &mut [u8], at: usize, e: LineMapEntry) -> Put
-    ensures { λ r. ⌜ PutsLine (now (out .entry)) at (lineLine (lineIn e)) (now (out .exit)) r ⌝ }
+    ensures { λ r. ⌜ Puts (now (out .entry)) at (lineLine (lineIn e)) (now (out .exit)) r ⌝ }
 {
     let ns = [
         e.function_id.0 as u64,
@@ -163,7 +164,7 @@ pub fn put_line_entry(out: &mut [u8], at: usize, e: LineMapEntry) -> Put
     put_line(out, at, b"line", &ns)
 }
 
-// The claims of `specs/Laws.antt` hold. There is no code: the contract makes the check prove them.
+// The claims of `specs/Laws.antt` hold. Empty body: the contract makes the checker prove them.
 pub fn laws_hold()
     ensures { λ _. ⌜ Laws ⌝ }
 {}

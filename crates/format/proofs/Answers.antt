@@ -1,4 +1,4 @@
--- Laws of answers one behind the other.
+-- Laws of answers, one after the other.
 use Prim.Native.Nat.{ℕ}
 use mathlib.Core.Path.{_≡_, refl, sym, ap}
 use mathlib.Core.Bool.{Bool, true, false, _&&_}
@@ -35,7 +35,7 @@ pub needed : (t : Bool) (r : Fault) {u : Unit {0}} → need t r ≡ found u → 
 needed true r e = refl
 needed false r e = never e
 
--- one step behind another, and a step behind a renaming of what was found
+-- a step after another, and a step after a renaming of what was found
 pub assoc : {A B C : Type 0} (x : Got A) (g : A → Got B) (k : B → Got C) → ((x >>= g) >>= k) ≡ (x >>= λ a. (g a >>= k))
 assoc (refused r) g k = refl
 assoc (found a) g k = refl

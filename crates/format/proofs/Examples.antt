@@ -1,11 +1,11 @@
--- The files of `specs/Examples` and the cases are as said there, by computing.
+-- The files of `specs/Examples` and the cases are as stated there, by computing.
 use Prim.Native.Nat.{ℕ, _+_}
 use mathlib.Core.Path.{_≡_, refl}
 use mathlib.Core.Bool.{Bool, true, false}
 use mathlib.Core.List.{List, [], _∷_}
 use lib.Dec.{T, leb, le→leb, lit≤}
 use lib.ListN.{length}
-use Rattle.utf8.specs.Utf8.{utf8, goodLength, goodAfter, sequenceAt}
+use Rattle.utf8.specs.Utf8.{utf8, validUpTo, validAfter, sequenceAt}
 use Rattle.reading.specs.Numbers.{le}
 use Rattle.reading.specs.Reader.{bytes}
 use Rattle.reading.specs.Answer.{Got, refused, found}
@@ -23,13 +23,13 @@ use Rattle.format.specs.Lookups.{readAt, debugAt, debugIn}
 use Rattle.format.specs.RunSide.{placed, empty, SameRunSide}
 use Rattle.format.specs.Added.{RowAndPayload, end, kept, added, Added}
 use Rattle.format.specs.Examples.{lineRow, lineTable, lines, unknownRow, unknownTable, linesMore, mill, stripped, millMore, typesInside, typesBefore, tiny, displaced, hashed}
-use Rattle.format.specs.Examples.{FirstHalfSpeaks, TypesPremiseNeeded, EmptyCodePlaceNeeded, ContentHashNeeded, SecondHalfSpeaks}
+use Rattle.format.specs.Examples.{FirstHalfNotVacuous, TypesPremiseNeeded, EmptyCodePlaceNeeded, ContentHashNeeded, SecondHalfNotVacuous}
 use Rattle.format.specs.Cases.{Cases, WrongTurns}
 
 pub inside : (f : List ℕ) (p : Place) → T (leb 256 (p .offset)) → T (leb (p .offset + p .size) (length f)) → Inside f p
 inside f p a b = record { behind = lit≤ a; within = lit≤ b }
 
--- what was found, where it is seen that something was
+-- what was found, where something was
 abbrev pub isFound : {A : Type 0} → Got A → Bool
 isFound (refused r) = false
 isFound (found a) = true
@@ -53,9 +53,9 @@ premises =
       code = record { in-first = inside mill _ tt tt; in-second = inside stripped _ tt tt; sizes = refl; bytes = refl };
     }
 
-pub first-half-speaks : (hash : List ℕ → List ℕ) → FirstHalfSpeaks hash
+pub first-half-not-vacuous : (hash : List ℕ → List ℕ) → FirstHalfNotVacuous hash
 unfolding load headerOf runtimeOf directoryOf le bytes contentFits readIn sectionIn isInside task.taskTable task.task task.program typesFound hasTypes types.typeTables types.fbType types.array types.userFb pool.constants pool.constant pool.keptOf code.codeOf code.function readAt
-first-half-speaks hash = record { lengths = (refl, refl); premises = premises; first-answer = refl; second-answer = refl }
+first-half-not-vacuous hash = record { lengths = (refl, refl); premises = premises; first-answer = refl; second-answer = refl }
 
 pub types-premise-needed : (hash : List ℕ → List ℕ) → TypesPremiseNeeded hash
 unfolding load headerOf runtimeOf directoryOf le bytes contentFits readIn sectionIn isInside task.taskTable task.task task.program typesFound hasTypes types.typeTables types.fbType types.array types.userFb pool.constants pool.constant pool.keptOf code.codeOf code.function readAt
@@ -116,16 +116,16 @@ sections =
     record {
       old = record { parts = known ∷ []; behindRows = lineTable; rest = []; rows = refl; takes = (_, [], refl, refl, refl) };
       new = other ∷ known ∷ [];
-      woven = added (record { whole = refl; notListed = refl; sized = refl }) (kept end);
+      interleaved = added (record { whole = refl; notListed = refl; sized = refl }) (kept end);
       low = 2;
       high = 0;
       count = refl;
       holds = refl;
     }
 
-pub second-half-speaks : (hash : List ℕ → List ℕ) → SecondHalfSpeaks hash
+pub second-half-not-vacuous : (hash : List ℕ → List ℕ) → SecondHalfNotVacuous hash
 unfolding load headerOf runtimeOf directoryOf le bytes contentFits readIn sectionIn isInside task.taskTable task.task task.program typesFound hasTypes types.typeTables types.fbType types.array types.userFb pool.constants pool.constant pool.keptOf code.codeOf code.function debugFound debugOf debugHashFits debugTables rowsOf payloadOf tagOf sizeOf kindOf line debugIn debugAt lineFor sorted
-second-half-speaks hash =
+second-half-not-vacuous hash =
     let a = the-found (load hash mill) tt in
     let b = the-found (load hash millMore) tt in
     record {
@@ -148,7 +148,7 @@ second-half-speaks hash =
 -- The starred cases, and the wrong turns
 
 pub cases : (hash : List ℕ → List ℕ) → Cases hash
-unfolding load headerOf runtimeOf directoryOf le bytes contentFits readIn sectionIn isInside task.taskTable task.task task.program typesFound hasTypes types.typeTables types.fbType types.array types.userFb pool.constants pool.constant pool.keptOf code.codeOf code.function debugFound debugOf debugHashFits debugTables rowsOf payloadOf tagOf sizeOf kindOf line debugIn debugAt lineFor sorted utf8 goodLength goodAfter sequenceAt
+unfolding load headerOf runtimeOf directoryOf le bytes contentFits readIn sectionIn isInside task.taskTable task.task task.program typesFound hasTypes types.typeTables types.fbType types.array types.userFb pool.constants pool.constant pool.keptOf code.codeOf code.function debugFound debugOf debugHashFits debugTables rowsOf payloadOf tagOf sizeOf kindOf line debugIn debugAt lineFor sorted utf8 validUpTo validAfter sequenceAt
 cases hash =
     record {
       strides = (refl, refl, λ extra. refl, refl);

@@ -27,7 +27,7 @@ module _ {A : Type 0} (out : Fault) where
   only (a ∷ xs) zero f e = never (sym e)
   only (a ∷ xs) (suc i) f e = let l = only xs i f e in omega arith
 
--- a table, by what stands for a refusal at each index
+-- a table, with its refusal at each index
 exactly : {A : Type 0} (out : ℕ → Fault) (xs : List A) → Exactly out (length xs) (λ i. indexed (out i) xs i)
 exactly out xs = record { refuses = λ i. refuses (out i) xs i; only = λ i. only (out i) xs i }
 
@@ -43,7 +43,7 @@ exactly-made g out xs =
       only = λ i f h. let m = made g (indexed (out i) xs i) f h in only (out i) xs i (m .0) (m .1);
     }
 
--- the entries of an entry that is there
+-- the entries of an entry that exists
 exactly-within : {A B : Type 0} (out : Fault) (x : Got A) (a : A) (inner : A → List B) → x ≡ found a → Exactly (always out) (length (inner a)) (λ j. x >>= λ b. indexed out (inner b) j)
 exactly-within out x a inner e = rw e (exactly (always out) (inner a))
 

@@ -1,4 +1,4 @@
--- The layouts are as said in `specs/Layouts`, by computing; and the bound on what is hashed.
+-- The layouts are as stated in `specs/Layouts`, by computing; and the bound on what is hashed.
 use Prim.Native.Nat.{ℕ, _+_, _≤_}
 use mathlib.Core.Path.{_≡_, refl, ap}
 use mathlib.Core.Bool.{Bool, true, false, cond}
@@ -6,7 +6,7 @@ use mathlib.Core.List.{List, []}
 use native.Mathlib.Omega.{arith}
 use lib.Dec.{eqb}
 use lib.ListN.{length, length-append, length-take}
-use Rattle.utf8.specs.Utf8.{utf8, goodLength, goodAfter, sequenceAt}
+use Rattle.utf8.specs.Utf8.{utf8, validUpTo, validAfter, sequenceAt}
 use Rattle.reading.specs.Numbers.{le}
 use Rattle.reading.specs.Reader.{bytes}
 use Rattle.reading.specs.Answer.{found, _>>=_, need}
@@ -26,7 +26,7 @@ use Rattle.format.proofs.Answers.{never, same-found, steps}
 use Rattle.format.proofs.Places.{inside-is, length-cut}
 
 pub layouts : Layouts
-unfolding le bytes runtimeOf directoryOf maskedHeader sectionIn hashedIn hashedString isInside task.taskTable task.task task.program types.fbType types.field types.array types.userFb pool.constant pool.keptOf code.function line variable functionName stringLayout sourceFile enumeration text name path tagOf sizeOf kindOf payloadOf rowsOf debugTables sorted lineFor debugOf utf8 goodLength goodAfter sequenceAt
+unfolding le bytes runtimeOf directoryOf maskedHeader sectionIn hashedIn hashedString isInside task.taskTable task.task task.program types.fbType types.field types.array types.userFb pool.constant pool.keptOf code.function line variable functionName stringLayout sourceFile enumeration text name path tagOf sizeOf kindOf payloadOf rowsOf debugTables sorted lineFor debugOf utf8 validUpTo validAfter sequenceAt
 layouts =
     record {
       header = refl;

@@ -5,12 +5,15 @@ pub mod Readers
 pub mod Keeping
 pub mod PlacesHold
 pub mod Loads
+pub mod DebugStates
 pub mod OwnRecord
 pub mod RunSide
 pub mod Order
 pub mod UnknownTables
+pub mod RefusalsGiven
 pub mod Refusals
 pub mod Indexing
 pub mod LineFound
 pub mod Layouts
+pub mod ProgramLimit
 pub mod Claims

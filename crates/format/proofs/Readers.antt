@@ -4,7 +4,7 @@ use mathlib.Core.Bool.{Bool, true, false}
 use mathlib.Core.List.{List, _++_}
 use Prim.Native.Nat.{ℕ, _-_}
 use lib.ListN.{length}
-use Rattle.utf8.specs.Utf8.{goodLength, utf8}
+use Rattle.utf8.specs.Utf8.{validUpTo, utf8}
 use Rattle.reading.specs.Fault.{Fault, badText}
 use Rattle.reading.specs.Reader.{got, check, bytes}
 use Rattle.reading.proofs.Reading.{never, both}
@@ -42,15 +42,15 @@ passed : (ok : Bool) (f : Fault) (s : List ℕ) {u : Unit {0}} {t : List ℕ} �
 passed true f s e = (refl, cc)
 passed false f s e = never e
 
--- a text by its bytes: the count of bytes left stands in its fault alone
+-- a text by its bytes: the count of bytes left occurs only in its fault
 pub local-text : (n : ℕ) → Local (text byBytes n)
 unfolding text
 local-text n =
     record {
       taken = λ s a t e.
           let b = both (bytes n s) e in
-          let c = both (check (utf8 (b .item)) (badText (length s - goodLength (b .item))) (b .middle)) (b .second) in
-          let d = passed (utf8 (b .item)) (badText (length s - goodLength (b .item))) (b .middle) (c .first) in
+          let c = both (check (utf8 (b .item)) (badText (length s - validUpTo (b .item))) (b .middle)) (b .second) in
+          let d = passed (utf8 (b .item)) (badText (length s - validUpTo (b .item))) (b .middle) (c .first) in
           let p = local-bytes n .taken s (b .item) (b .middle) (b .first) in
           let x : b .item ≡ a = cc in
           let y : b .middle ≡ t = cc in

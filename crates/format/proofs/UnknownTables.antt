@@ -52,10 +52,10 @@ rows-whole (suc n) (p ∷ ps) s t e =
     let g : m .item ≡ allRows ps = cc in
     (rw h at (bytes-length 8 s (k .item) (k .middle) (k .first)), rows-whole n ps (k .middle) (m .middle) (rw g at (m .first)))
 
-woven-whole : {ps qs : List RowAndPayload} → WithUnknown ps qs → Whole ps → Whole qs
-woven-whole end w = tt
-woven-whole (kept h) w = (w .0, woven-whole h (w .1))
-woven-whole (added u h) w = (u .whole, woven-whole h w)
+interleaved-whole : {ps qs : List RowAndPayload} → WithUnknown ps qs → Whole ps → Whole qs
+interleaved-whole end w = tt
+interleaved-whole (kept h) w = (w .0, interleaved-whole h (w .1))
+interleaved-whole (added u h) w = (u .whole, interleaved-whole h w)
 
 -- rows of 8 bytes are read back
 rows-again : (ps : List RowAndPayload) (s : List ℕ) → Whole ps → many (length ps) (bytes 8) (rowBytes ps ++ s) ≡ got (allRows ps) s
@@ -107,10 +107,10 @@ section-same {d} {e} a =
       a .holds,
       append-assoc (rowBytes (a .new)) (payloadBytes (a .new)) (p .rest),
       rows-of-e (a .low) (a .high) (a .new) (payloadBytes (a .new) ++ p .rest) (a .count)
-          (woven-whole (a .woven) (rows-of-d d (p .parts) (p .behindRows) (p .rows))),
+          (interleaved-whole (a .interleaved) (rows-of-d d (p .parts) (p .behindRows) (p .rows))),
       p .rows,
     )
-    (same-tables (a .woven) (p .behindRows) (p .rest) noTables (p .takes))
+    (same-tables (a .interleaved) (p .behindRows) (p .rest) noTables (p .takes))
 
 debug-same : {d e : List ℕ} → Added d e → debugOf e ≡ debugOf d
 unfolding debugOf

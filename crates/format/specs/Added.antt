@@ -29,7 +29,7 @@ abbrev pub Takes : List RowAndPayload → List ℕ → List ℕ → Type 0
 Takes [] s rest = s ≡ rest
 Takes (p ∷ ps) s rest = (t : Payload (List ℕ)) × (s′ : List ℕ) × (payloadOf byBytes (p .row) s ≡ got t s′) × (s ≡ p .payload ++ s′) × Takes ps s′ rest
 
--- how reading takes D apart: its rows, each with the bytes that reading it takes, and the bytes at D's end that reading D leaves
+-- how reading takes D apart: its rows, each with the bytes that reading it takes in D, and "the bytes at D's end that reading D leaves"
 pub record TakenApart (d : List ℕ) : Type 0 where
   pub parts : List RowAndPayload
   pub behindRows : List ℕ
@@ -37,7 +37,7 @@ pub record TakenApart (d : List ℕ) : Type 0 where
   pub rows : rowsOf d ≡ got (allRows parts) behindRows
   pub takes : Takes parts behindRows rest
 
--- what may be added: 8 bytes of a row whose tag is not listed, and as many bytes as its size
+-- what may be added: a row of 8 bytes whose tag document 01 does not list, and as many bytes as its size
 pub record Unknown (p : RowAndPayload) : Type 0 where
   pub whole : length (p .row) ≡ 8
   pub notListed : kindOf (tagOf (p .row)) ≡ unknown
@@ -53,7 +53,7 @@ pub data WithUnknown : List RowAndPayload → List RowAndPayload → Type 0 wher
 pub record Added (d e : List ℕ) : Type 0 where
   pub old : TakenApart d
   pub new : List RowAndPayload
-  pub woven : WithUnknown (old .parts) new
+  pub interleaved : WithUnknown (old .parts) new
   pub low : ℕ
   pub high : ℕ
   pub count : low + 256 * high ≡ length new

@@ -1,4 +1,4 @@
--- The starred cases of document 01, jointly, of the definitions; and its "Wrong turns".
+-- Document 01's starred cases, as one claim about the definitions, and its "Wrong turns".
 use Prim.Native.Nat.{ℕ}
 use mathlib.Core.Path.{_≡_}
 use mathlib.Core.Bool.{true, false}
@@ -49,7 +49,7 @@ pub record Cases (hash : List ℕ → List ℕ) : Type 0 where
   pub empty-debug : debugOf (0 ∷ 0 ∷ []) ≡ some noTables
   pub empty-line : (function offset : ℕ) → lineAt hash (millWith 6 0 (0 ∷ 0 ∷ [])) function offset ≡ refused noLine
 
--- what the four wrong turns would answer otherwise
+-- what each of the four wrong turns would get wrong
 pub record WrongTurns (hash : List ℕ → List ℕ) : Type 0 where
   -- M with the debug flag clear still has its lines
   pub flag-not-asked : lineAt hash (millWith 4 0 lines) 0 3 ≡ found lastLine

@@ -39,7 +39,7 @@ codeOf n = do
   bytecode ← allLeft
   give (record { functions = functions; bytecode = bytecode })
 
--- a function's part of the bytecode, which ends the section; 12 where its range is outside
+-- a function's part of the bytecode, which is the section's last part; 12 if its range is outside
 abbrev pub bytecodeOf : {T : Type 0} → Keep T → List ℕ → Function → Got T
 bytecodeOf keep b f =
     let end = f .offset + f .size in

@@ -15,7 +15,7 @@ use Rattle.format.specs.Parts.{Keep}
 abbrev pub isNumber : ℕ → Bool
 isNumber kind = leb kind 5
 
--- what is kept of a constant: of a number eight bytes, of a string its own
+-- what is kept of a constant: eight bytes of a number, all bytes of a string
 pub data Kept (T : Type 0) : Type 0 where
   number : List ℕ → Kept T
   string : T → Kept T
@@ -24,7 +24,7 @@ pub record Constant (T : Type 0) : Type 0 where
   pub kind : ℕ
   pub kept : Kept T
 
--- the same constant with `h` of what stands for a string
+-- the same constant with `h` applied to its string
 abbrev pub onKept : {T U : Type 0} → (U → T) → Kept U → Kept T
 onKept h (number b) = number b
 onKept h (string t) = string (h t)
@@ -32,7 +32,7 @@ onKept h (string t) = string (h t)
 abbrev pub onConstant : {T U : Type 0} → (U → T) → Constant U → Constant T
 onConstant h c = record { kind = c .kind; kept = onKept h (c .kept) }
 
--- short numbers are filled with zeros at the end
+-- document 01: "Types 0 to 5 keep 8 bytes, short ones zero-filled at the end"
 unfoldable pub keptOf : {T : Type 0} → Keep T → ℕ → List ℕ → ℕ → Kept T
 keptOf keep kind body behind = cond (isNumber kind) (number (body ++ replicate (8 - length body) 0)) (string (keep body behind))
 
@@ -55,7 +55,7 @@ constant keep = do
 unfoldable pub constants : {T : Type 0} → Keep T → Reader (List (Constant T))
 constants keep = counted (constant keep)
 
--- What the getters make of an entry; another type than asked gives 9 and the entry's type
+-- The getters; an entry of another type than asked gives 9 with the entry's type
 
 -- a number of type `kind`: its first `width` kept bytes, low byte first
 abbrev pub numberIn : {T : Type 0} → ℕ → ℕ → ℕ → Kept T → Got ℕ
@@ -65,7 +65,7 @@ numberIn kind width stored (string t) = refused (invalidConstantType stored)
 abbrev pub asNumber : {T : Type 0} → ℕ → ℕ → Constant T → Got ℕ
 asNumber kind width c = numberIn kind width (c .kind) (c .kept)
 
--- two's complement, with half of the range below zero
+-- two's complement; `half` is the size of the negative half
 abbrev pub signed : ℕ → ℕ → ℤ
 signed half n = cond (ltb n half) (pos n) (negsuc (half + half - 1 - n))
 
@@ -77,6 +77,6 @@ stringIn stored (string t) = found t
 abbrev pub asString : {T : Type 0} → Constant T → Got T
 asString c = stringIn (c .kind) (c .kept)
 
--- bytes to a character: 1 for Str, 2 for WStr
+-- bytes per character: 1 for Str, 2 for WStr
 abbrev pub charWidth : {T : Type 0} → Constant T → Got ℕ
 charWidth c = cond (eqb (c .kind) 6) (found 1) (cond (eqb (c .kind) 7) (found 2) (refused (invalidConstantType (c .kind))))

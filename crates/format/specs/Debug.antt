@@ -3,11 +3,11 @@ use mathlib.Core.Bool.{cond}
 use mathlib.Core.List.{List, [], _∷_}
 use Prim.Native.Nat.{ℕ, _-_}
 use lib.Dec.{eqb}
-use Rattle.utf8.specs.Utf8.{goodLength, utf8}
+use Rattle.utf8.specs.Utf8.{validUpTo, utf8}
 use Rattle.reading.specs.Fault.{badText}
 use Rattle.reading.specs.Numbers.{leAt}
 use Rattle.reading.specs.Reader.{Reader, _>>=_, _>>_, give, check, left, bytes, u8, u16, u32, counted}
-use Rattle.format.specs.Parts.{Keep}
+use Rattle.format.specs.Parts.{hashSize, Keep}
 
 -- Names and paths
 
@@ -16,7 +16,7 @@ unfoldable pub text : {T : Type 0} → Keep T → ℕ → Reader T
 text keep n = do
   whole ← left
   t ← bytes n
-  check (utf8 t) (badText (whole - goodLength t))
+  check (utf8 t) (badText (whole - validUpTo t))
   give (keep t (whole - n))
 
 -- a name has a 1-byte length, a path a 2-byte length
@@ -100,7 +100,7 @@ pub record SourceFile (T : Type 0) : Type 0 where
 unfoldable pub sourceFile : {T : Type 0} → Keep T → Reader (SourceFile T)
 sourceFile keep = do
   located ← path keep
-  hash ← bytes 32
+  hash ← bytes hashSize
   give (record { located = located; hash = hash })
 
 -- tag 9: name, value count 2, names
@@ -114,7 +114,7 @@ enumeration keep = do
   values ← counted (name keep)
   give (record { named = named; values = values })
 
--- The same entries with `h` of what stands for a name or a path
+-- The same entries with `h` applied to their names and paths
 
 abbrev pub onVariable : {T U : Type 0} → (U → T) → Variable U → Variable T
 onVariable h v =
@@ -162,7 +162,7 @@ pub data Payload (T : Type 0) : Type 0 where
   ofEnumerations : List (Enumeration T) → Payload T
   skipped : Payload T
 
--- a known table is read by its own count, whatever its row's size is; any other is skipped by that size
+-- document 01: known payloads "are read by their own counts; their size is ignored. Other tags are skipped by size"
 abbrev pub payload : {T : Type 0} → Keep T → Kind → ℕ → Reader (Payload T)
 payload keep lines size = do
   es ← counted line
@@ -224,7 +224,7 @@ tablesOf keep (row ∷ rows) t = do
   x ← payloadOf keep row
   tablesOf keep rows (put x t)
 
--- The section: count 2, the rows, then the payloads; bytes behind these are left unread
+-- The section: count 2, the rows, then the payloads; any bytes after these are not read
 
 unfoldable pub rowsOf : Reader (List Row)
 rowsOf = counted (bytes 8)

@@ -1,5 +1,5 @@
--- Files as lists: the mill file M of document 01, and others made of it. What they show of demand 3: its premises hold of some files,
--- and the premises on types, on the place of empty code and on the content hash are needed.
+-- Files as lists: document 01's mill file M, and others made from it. They show of demand 3 that it is not vacuous, and that its premises on types,
+-- on the place of empty code and on the content hash are needed.
 use Prim.Native.Nat.{ℕ, _/_, _%_, _≤_}
 use mathlib.Core.Path.{_≡_}
 use mathlib.Core.Bool.{false}
@@ -8,7 +8,7 @@ use lib.IntN.{ℤ, pos}
 use lib.ListN.{length, replicate}
 use Rattle.reading.specs.Answer.{Got, refused, found, _>>=_}
 use Rattle.format.specs.Faults.{sectionSizeMismatch, contentHashMismatch, noArray}
-use Rattle.format.specs.Parts.{limit, part, cut, Inside, same}
+use Rattle.format.specs.Parts.{limit, hashSize, part, cut, Inside, same}
 use Rattle.format.specs.Header.{directoryOf}
 use Rattle.format.specs.Types.{Array}
 use Rattle.format.specs.Debug.{Line}
@@ -23,7 +23,7 @@ abbrev pub pair : ℕ → ℕ → List ℕ
 pair at size = at % 256 ∷ at / 256 ∷ 0 ∷ 0 ∷ size % 256 ∷ size / 256 ∷ 0 ∷ 0 ∷ []
 
 abbrev pub zeroHash : List ℕ
-zeroHash = replicate 32 0
+zeroHash = replicate hashSize 0
 
 -- a header with flags, content hash, debug hash, directory (types, tasks, constants, code, debug) and function count; all else zero
 abbrev pub header : ℕ → List ℕ → List ℕ → List ℕ → ℕ → List ℕ
@@ -49,7 +49,7 @@ constants = 2 ∷ 0 ∷ 0 ∷ 0 ∷ 4 ∷ 0 ∷ 0x0E ∷ 0x01 ∷ 0 ∷ 0 ∷ 6 
 abbrev pub codeWith : ℕ → List ℕ
 codeWith id = id ∷ 0 ∷ 0 ∷ 0 ∷ 0 ∷ 0 ∷ 5 ∷ 0 ∷ 0 ∷ 0 ∷ 8 ∷ 0 ∷ 2 ∷ 0 ∷ 0 ∷ 0 ∷ replicate 5 0
 
--- the row of the lines, which says that their table has `size` bytes; the table has 32, and M says 0
+-- the row of the line table, with `size` as its size; the table has 32 bytes, and M's row says 0
 abbrev pub lineRow : ℕ → List ℕ
 lineRow size = 1 ∷ 0 ∷ 0 ∷ 0 ∷ size ∷ 0 ∷ 0 ∷ 0 ∷ []
 
@@ -74,7 +74,7 @@ lines = 1 ∷ 0 ∷ lineRow 0 ++ lineTable
 abbrev pub mill : List ℕ
 mill = millWith 6 0 lines
 
--- M without debug, its sections in another order behind three other bytes, with some debug hash: 366 bytes
+-- M without debug, its sections in another order after three other bytes, with some debug hash: 366 bytes
 abbrev pub stripped : List ℕ
 stripped =
     header 4 zeroHash (replicate 32 7) (pair 296 16 ++ pair 312 54 ++ pair 280 16 ++ pair 259 21 ++ pair 0 0) 1
@@ -97,7 +97,7 @@ millMore = millWith 6 0 linesMore
 abbrev pub linesTwice : List ℕ
 linesTwice = 2 ∷ 0 ∷ lineRow 7 ++ lineRow 0 ++ 0 ∷ 0 ∷ lineTable
 
--- unhashed; the first has its types inside, the second before byte 256, in the reserved bytes 40 to 55, where both files hold them too
+-- unhashed; with its types in the file, or before byte 256, in the reserved bytes 40 to 55, where both files hold the same bytes
 abbrev pub typesAt : ℕ → List ℕ
 typesAt at =
     0x43 ∷ 0x4C ∷ 0x50 ∷ 0x49 ∷ 4 ∷ 0 ∷ 0 ∷ 4 ∷ zeroHash ++ types ++ replicate 16 0 ++ zeroHash ++ replicate 32 0
@@ -110,7 +110,7 @@ typesInside = typesAt 347
 abbrev pub typesBefore : List ℕ
 typesBefore = typesAt 40
 
--- a small file that loads: no tasks, types, constants, functions or debug, and its code of size 0 where said; 264 bytes
+-- a small file that loads: no tasks, types, constants, functions or debug, and its code, of size 0, at `codeAt`; 264 bytes
 abbrev pub tinyWith : List ℕ → ℕ → List ℕ
 tinyWith contentHash codeAt =
     header 0 contentHash zeroHash (pair 0 0 ++ pair 256 6 ++ pair 262 2 ++ pair codeAt 0 ++ pair 0 0) 0 ++ replicate 8 0
@@ -126,7 +126,7 @@ displaced = tinyWith zeroHash 0
 abbrev pub hashed : List ℕ
 hashed = tinyWith (replicate 32 1) 264
 
--- Questions to a file with the record read from it
+-- Lookups over a file and the record read from it
 
 abbrev pub pasteLimit : (List ℕ → List ℕ) → List ℕ → Got ℤ
 pasteLimit hash f = readFrom hash f >>= λ r. runAnswers f r .i32 0
@@ -141,15 +141,15 @@ lineAt hash f function offset = readFrom hash f >>= λ r. debugAnswers f r .sour
 abbrev pub lastLine : Line
 lastLine = record { function = 0; offset = 3; file = 0; line = 2; column = 9 }
 
--- The first half speaks of some files: the premises hold of M and its stripped form, and both load
+-- The first half is not vacuous: its premises hold of M and its stripped form, and both load
 
-pub record FirstHalfSpeaks (hash : List ℕ → List ℕ) : Type 0 where
+pub record FirstHalfNotVacuous (hash : List ℕ → List ℕ) : Type 0 where
   pub lengths : (length mill ≡ 405) × (length stripped ≡ 366)
   pub premises : SameRunSide mill stripped
   pub first-answer : pasteLimit hash mill ≡ found (pos 270)
   pub second-answer : pasteLimit hash stripped ≡ found (pos 270)
 
--- The premise that types lie inside both files is needed: all others hold here, and the array lookup differs
+-- The premise that types lie in both files is needed: all others hold here, and the array lookup differs
 
 pub record TypesPremiseNeeded (hash : List ℕ → List ℕ) : Type 0 where
   pub limits : (length typesInside ≤ limit) × (length typesBefore ≤ limit)
@@ -177,7 +177,7 @@ pub record EmptyCodePlaceNeeded (hash : List ℕ → List ℕ) : Type 0 where
   pub first-loads : (l : Loaded) × (load hash tiny ≡ found l)
   pub second-refused : load hash displaced ≡ refused sectionSizeMismatch
 
--- The content hash must agree: a file that carries 32 ones is refused with 5, unless the hash function gives these
+-- The content hash must agree: a file with 32 ones as its content hash is refused with 5, unless the hash function gives these
 
 pub record ContentHashNeeded (hash : List ℕ → List ℕ) : Type 0 where
   pub limits : (length tiny ≤ limit) × (length hashed ≤ limit)
@@ -191,9 +191,9 @@ pub record ContentHashNeeded (hash : List ℕ → List ℕ) : Type 0 where
   pub first-loads : (l : Loaded) × (load hash tiny ≡ found l)
   pub second-refused : ((s : List ℕ) → same (hash s) (replicate 32 1) ≡ false) → load hash hashed ≡ refused contentHashMismatch
 
--- The second half speaks of some files: M, and M with an unknown table added
+-- The second half is not vacuous: it speaks of M, and of M with an unknown table added
 
-pub record SecondHalfSpeaks (hash : List ℕ → List ℕ) : Type 0 where
+pub record SecondHalfNotVacuous (hash : List ℕ → List ℕ) : Type 0 where
   pub first : Loaded
   pub second : Loaded
   pub first-loads : load hash mill ≡ found first

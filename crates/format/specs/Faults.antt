@@ -3,7 +3,7 @@ use Prim.Native.Nat.{ℕ}
 use mathlib.Core.List.{[], _∷_}
 use Rattle.reading.specs.Fault.{Fault, refusal}
 
--- 1, `shortInput`, is the reading algebra's
+-- 1, `shortInput`, is defined with the reading algebra
 
 abbrev pub invalidMagic : Fault
 invalidMagic = refusal 2 []

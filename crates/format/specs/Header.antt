@@ -8,7 +8,7 @@ use Rattle.reading.specs.Fault.{shortInput}
 use Rattle.reading.specs.Numbers.{leAt}
 use Rattle.reading.specs.Answer.{Got, found, _>>=_, _>>_, need}
 use Rattle.format.specs.Faults.{invalidMagic, unsupportedVersion}
-use Rattle.format.specs.Parts.{part, Place}
+use Rattle.format.specs.Parts.{headerSize, hashSize, part, Place}
 
 -- the seven pairs of offset and size
 pub record Directory : Type 0 where
@@ -47,7 +47,7 @@ pub record Header : Type 0 where
   pub runtime : Runtime
   pub reserved : List ℕ
 
--- What the first 256 bytes of a file hold
+-- What the first 256 bytes of a file hold; document 01's numbers
 
 -- a pair: offset 4, size 4
 abbrev pub placeAt : List ℕ → ℕ → Place
@@ -88,10 +88,10 @@ fieldsOf f =
       version = leAt 2 f 4;
       profile = leAt 1 f 6;
       flags = leAt 1 f 7;
-      contentHash = part 8 32 f;
-      reservedHash = part 40 32 f;
-      debugHash = part 72 32 f;
-      layoutHash = part 104 32 f;
+      contentHash = part 8 hashSize f;
+      reservedHash = part 40 hashSize f;
+      debugHash = part 72 hashSize f;
+      layoutHash = part 104 hashSize f;
       directory = directoryOf f;
       runtime = runtimeOf f;
       reserved = part 218 38 f;
@@ -101,7 +101,7 @@ fieldsOf f =
 
 unfoldable pub headerOf : List ℕ → Got Header
 headerOf f = do
-  need (leb 256 (length f)) shortInput
+  need (leb headerSize (length f)) shortInput
   need (eqb (leAt 4 f 0) 0x49504C43) invalidMagic
   need (eqb (leAt 2 f 4) 4) unsupportedVersion
   found (fieldsOf f)

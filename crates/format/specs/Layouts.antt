@@ -1,4 +1,4 @@
--- The order and width of every field: each reader on bytes that differ (document 01, "Reading" 2 and "Sections"); and what is counted of M.
+-- The order and width of every field, shown by each reader on bytes that all differ (document 01, "Reading" 2 and "Sections"); and the counts of M.
 use Prim.Native.Nat.{ℕ, zero, suc, _+_, _*_, _-_, _≤_}
 use mathlib.Core.Path.{_≡_}
 use mathlib.Core.Bool.{false}
@@ -9,7 +9,7 @@ use lib.ListN.{length, replicate}
 use Rattle.reading.specs.Reader.{got}
 use Rattle.reading.specs.Answer.{found, refused, _>>=_}
 use Rattle.format.specs.Faults.{unsortedMap, noLine}
-use Rattle.format.specs.Parts.{limit, hashLimit, byBytes}
+use Rattle.format.specs.Parts.{limit, hashLimit, headerSize, byBytes}
 use Rattle.format.specs.Header.{Directory, fieldsOf, directoryOf}
 use Rattle.format.specs.Integrity.{maskedHeader, hashedString}
 use Rattle.format.specs.Tasks as tasks
@@ -22,7 +22,7 @@ use Rattle.format.specs.Load.{debugOf}
 use Rattle.format.specs.Record.{readFrom}
 use Rattle.format.specs.Examples as example
 
--- `n` bytes, each one more than the one before
+-- `n` bytes from `from` on, each one more than the one before
 abbrev pub rising : ℕ → ℕ → List ℕ
 rising zero from = []
 rising (suc n) from = from ∷ rising n (suc from)
@@ -101,7 +101,7 @@ pub record Layouts : Type 0 where
   pub taskTable : tasks.taskTable (0 ∷ 0 ∷ 0 ∷ 0 ∷ 5 ∷ 6 ∷ 7 ∷ []) ≡ got (record { sharedGlobals = 0x0605; tasks = []; programs = [] }) (7 ∷ [])
   pub fbType : types.fbType (1 ∷ 2 ∷ 1 ∷ 4 ∷ 5 ∷ 6 ∷ 7 ∷ 8 ∷ []) ≡ got (record { id = 0x0201; fields = record { kind = 5; extra = 0x0807 } ∷ [] }) []
   pub array : types.array (1 ∷ 2 ∷ 3 ∷ 4 ∷ 5 ∷ 6 ∷ 7 ∷ 8 ∷ 8 ∷ 0 ∷ 0 ∷ 0 ∷ []) ≡ got (record { kind = 1; elements = 0x06050403; extra = 0x0807; stride = 8 }) []
-  -- others than strings have exactly the natural stride
+  -- types other than strings have exactly the natural stride
   pub stride-9 : types.strideFits 0 0 9 ≡ false
   pub userFb : types.userFb (rising 8 1) ≡ got (record { id = 0x0201; function = 0x0403; variableOffset = 0x0605; fieldCount = 7 }) []
   -- a string may have more than eight bytes
@@ -120,11 +120,11 @@ pub record Layouts : Type 0 where
   pub unknown-tags : (debug.kindOf 0 ≡ debug.unknown) × (debug.kindOf 5 ≡ debug.unknown) × (debug.kindOf 7 ≡ debug.unknown) × (debug.kindOf 8 ≡ debug.unknown) × (debug.kindOf 10 ≡ debug.unknown)
   -- a later table replaces the earlier, even by an empty one
   pub replaced : debugOf (2 ∷ 0 ∷ example.lineRow 7 ++ example.lineRow 0 ++ example.lineTable ++ 0 ∷ 0 ∷ []) ≡ some debug.noTables
-  -- 14 also where 13 would hold; and functions count before offsets
+  -- 14 even where 13 would hold; functions are compared before offsets
   pub unsorted : (function query : ℕ) → lineFor function query (lineOf 0 3 ∷ lineOf 0 2 ∷ []) ≡ refused unsortedMap
   pub by-function-first : (query : ℕ) → lineFor 7 query (lineOf 0 3 ∷ lineOf 1 2 ∷ []) ≡ refused noLine
 
--- what is counted of M
+-- the counts of M
 pub record MillCounts (hash : List ℕ → List ℕ) : Type 0 where
   pub tasks : (readFrom hash example.mill >>= λ r. found (r .tasks)) ≡ found (record { sharedGlobals = 0; tasks = 1; programs = 1 })
   pub types : (readFrom hash example.mill >>= λ r. found (r .types)) ≡ found (some (record { fbTypes = 0; arrays = 1; userFbs = 0 }))
@@ -132,7 +132,7 @@ pub record MillCounts (hash : List ℕ → List ℕ) : Type 0 where
   pub debug : (readFrom hash example.mill >>= λ r. found (r .debug))
       ≡ found (some (record { lines = 3; variables = 0; functions = 0; strings = 0; files = 0; enumerations = 0 }))
 
--- Sections may overlap, so that 261,376 bytes can be hashed from one file within the limit, and no more
+-- document 01: "Sections may overlap, so 261,376 bytes can be hashed from one file"; and no more than that
 pub record HashLimit : Type 0 where
-  pub is : 256 + 4 * (limit - 256) ≡ hashLimit
+  pub is : headerSize + 4 * (limit - headerSize) ≡ hashLimit
   pub holds : (f : List ℕ) (d : Directory) (s : List ℕ) → length f ≤ limit → hashedString f d ≡ found s → length s ≤ hashLimit

@@ -9,7 +9,9 @@ pub mod Debug
 pub mod Lines
 pub mod Integrity
 pub mod Load
+pub mod DebugStates
 pub mod Record
+pub mod ProgramLimit
 pub mod Lookups
 pub mod RunSide
 pub mod Added

@@ -1,5 +1,5 @@
--- The line that the lookup finds, in document 01's words: the last entry of the asked function whose offset is greatest among those not
--- above the query; 13 exactly if there is none such, and 14 exactly if the map is not sorted.
+-- The line lookup in document 01's words: "the last entry of the asked function whose offset is greatest among those not above the
+-- query; 13 exactly if that function has none such"; and 14 exactly if the map is not sorted.
 use mathlib.Core.Bool.{true, false}
 use mathlib.Core.Path.{_≡_}
 use mathlib.Core.List.{List, _∷_, _++_, List·Memᴰ}

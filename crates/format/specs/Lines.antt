@@ -23,7 +23,7 @@ sorted (a ∷ b ∷ es) = inOrder a b && sorted (b ∷ es)
 abbrev pub candidate : ℕ → ℕ → Line → Bool
 candidate function query e = eqb (e .function) function && leb (e .offset) query
 
--- of the best so far and a later candidate: the later one, unless its offset is less
+-- the better of the best so far and a later candidate: the later one, unless its offset is less
 abbrev pub better : Option Line → Line → Option Line
 better none e = some e
 better (some best) e = cond (leb (best .offset) (e .offset)) (some e) (some best)

@@ -1,10 +1,11 @@
 -- Loading a file (document 01, "Reading, in this order"). `hash` stands for BLAKE3.
 use Prim.Native.Nat.{ℕ}
-use mathlib.Core.Bool.{Bool, _&&_, cond}
+use mathlib.Core.Bool.{Bool, not, _&&_, cond}
 use mathlib.Core.List.{List}
 use mathlib.Core.Option.{Option, none, some}
 use lib.Dec.{leb, ltb}
 use lib.ListN.{length}
+use Rattle.reading.specs.Fault.{Fault}
 use Rattle.reading.specs.Reader.{Read, fault, got, Reader}
 use Rattle.reading.specs.Answer.{Got, found, _>>=_, _>>_, need, itemOf}
 use Rattle.format.specs.Faults.{tooLong}
@@ -26,13 +27,13 @@ pub record Loaded : Type 0 where
   pub code : Code
   pub debug : Option (Tables (List ℕ))
 
--- a section handed on as its part of the file: 4 before it is read, then its own refusal
+-- document 01: "each section is handed on as the part of the file that starts at its offset and has its size": 4 before it is read, then its own refusal
 unfoldable pub readIn : {A : Type 0} → List ℕ → Place → Reader A → Got A
 readIn f p r = do
   s ← sectionIn f p
   itemOf (r s)
 
--- Types: read only if their flag is set, their size above 0 and their place inside; else there are none, and no refusal
+-- Types are read only if their flag is set, their size is above 0 and they lie in the file; otherwise there are none, and no refusal
 
 unfoldable pub hasTypes : List ℕ → Header → Bool
 hasTypes f h = typesFlag (h .flags) && ltb 0 (h .directory .types .size) && isInside f (h .directory .types)
@@ -42,7 +43,8 @@ typesFound f h =
     let read : Got (Option TypeTables) = (itemOf (typeTables (cut f (h .directory .types))) >>= λ t. found (some t)) in
     cond (hasTypes f h) read (found none)
 
--- Debug: four tests, and none of the flag; where one fails the container loads with no debug
+-- Debug (document 01, step 5: "Debug is read if its size is above 0; the flag is not asked. Out of the file, before byte 256, hash unequal (zero
+-- matches anything) or unreadable: the container loads with no debug"): four tests
 
 abbrev pub debugSized : Header → Bool
 debugSized h = ltb 0 (h .directory .debug .size)
@@ -65,6 +67,33 @@ unfoldable pub debugFound : (List ℕ → List ℕ) → List ℕ → Header → 
 debugFound hash f h =
     let read = debugOf (cut f (h .directory .debug)) in
     cond (debugSized h && debugInside f h && debugHashRight hash f h) read none
+
+-- The same tests in the paper's order: the first that fails decides in which state the debug section is
+
+pub data DebugState (A : Type 0) : Type 0 where
+  empty outside hashDiffers : DebugState A
+  unreadable : Fault → DebugState A
+  read : A → DebugState A
+
+-- the state of a section whose size, place and hash are right
+abbrev pub stateOfRead : {A : Type 0} → Read A → DebugState A
+stateOfRead (fault e) = unreadable e
+stateOfRead (got a rest) = read a
+
+unfoldable pub debugState : (List ℕ → List ℕ) → List ℕ → Header → DebugState (Tables (List ℕ))
+debugState hash f h =
+    let section = stateOfRead (debugTables byBytes (cut f (h .directory .debug))) in
+    cond (not (debugSized h)) empty
+    (cond (not (debugInside f h)) outside
+    (cond (not (debugHashRight hash f h)) hashDiffers section))
+
+-- what loading keeps of a state: only tables that were read
+abbrev pub debugKept : {A : Type 0} → DebugState A → Option A
+debugKept empty = none
+debugKept outside = none
+debugKept hashDiffers = none
+debugKept (unreadable e) = none
+debugKept (read a) = some a
 
 -- The file: length, header, content hash, tasks, types, constants, code, debug; the first fault met decides
 

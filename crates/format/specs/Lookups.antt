@@ -1,6 +1,6 @@
--- The lookups (document 01: "All lookups take file and record"). Over any file and any record a section is read alone, at the record's
--- place, size and function count; the record's other counts are not trusted. The order is 10, then absence (types 16, debug 15), then the
--- place (4, for debug 15), then the section's own refusal (for debug 15), then 11 to 17 and 29.
+-- The lookups (document 01: "All lookups take file and record"). Over any file and any record a section is read on its own,
+-- at the record's place, size and function count; the record's other counts are not trusted. Refusals come in this order: 10, absence (types
+-- 16, debug 15), the place (4, for debug 15), the section's own refusal (for debug 15), then 11 to 17 and 29.
 use Prim.Native.Nat.{ℕ, _*_}
 use mathlib.Core.Bool.{cond}
 use mathlib.Core.List.{List}
@@ -23,7 +23,7 @@ use Rattle.format.specs.Record.{TypeCounts, DebugCounts, Container}
 
 -- The five sections
 
--- a section read alone at a place: 10, then 4, then its own refusal
+-- a section read on its own at a place: 10, then 4, then its own refusal
 unfoldable pub readAt : {A : Type 0} → List ℕ → Place → Reader A → Got A
 readAt f p r = do
   need (leb (length f) limit) tooLong
@@ -32,7 +32,7 @@ readAt f p r = do
 abbrev pub tasksIn : List ℕ → Container → Got TaskTable
 tasksIn f r = readAt f (r .header .directory .tasks) taskTable
 
--- by what the record says of types: absence gives 16
+-- document 01: "A record without types or debug gives 16 or 15 for any entry of theirs"
 abbrev pub typesBy : List ℕ → Place → Option TypeCounts → Got TypeTables
 typesBy f p none = need (leb (length f) limit) tooLong >> refused noArray
 typesBy f p (some counts) = readAt f p typeTables
@@ -46,18 +46,18 @@ constantsIn keep f r = let p = r .header .directory .constants in readAt f p (co
 abbrev pub codeIn : List ℕ → Container → Got Code
 codeIn f r = readAt f (r .header .directory .code) (codeOf (r .header .runtime .functions))
 
--- for debug either refusal, of the place and of the section, is 15
+-- for debug both refusals, of the place and of the section, become 15
 abbrev pub orNoDebug : {A : Type 0} → Got A → Got A
 orNoDebug (refused r) = refused noDebug
 orNoDebug (found a) = found a
 
--- a debug section read alone at a place: 10, then 15
+-- a debug section read on its own at a place: 10, then 15
 unfoldable pub debugAt : {T : Type 0} → Keep T → List ℕ → Place → Got (Tables T)
 debugAt keep f p = do
   need (leb (length f) limit) tooLong
   orNoDebug (readIn f p (debugTables keep))
 
--- by what the record says of debug: absence gives 15
+-- without debug in the record: 15
 abbrev pub debugBy : {T : Type 0} → Keep T → List ℕ → Place → Option DebugCounts → Got (Tables T)
 debugBy keep f p none = need (leb (length f) limit) tooLong >> refused noDebug
 debugBy keep f p (some counts) = debugAt keep f p
@@ -73,7 +73,7 @@ taskOf i t = indexed noEntry (t .tasks) i
 abbrev pub programOf : ℕ → TaskTable → Got Program
 programOf i t = indexed noEntry (t .programs) i
 
--- an FB type is answered by its id and how many fields it has; the fields are asked for one by one
+-- the answer for an FB type is its id and its field count; fields are looked up one by one
 pub record FbTypeHead : Type 0 where
   pub id : ℕ
   pub fieldCount : ℕ
@@ -90,7 +90,7 @@ fieldOf i j t = indexed noEntry (t .fbTypes) i >>= λ b. indexed noEntry (b .fie
 abbrev pub arrayOf : ℕ → TypeTables → Got Array
 arrayOf i t = indexed noArray (t .arrays) i
 
--- elements times stride, of 32 bits
+-- the size of an array, elements times stride; 17 if it does not fit 32 bits
 abbrev pub byteSize : Array → Got ℕ
 byteSize a = cond (leb (a .elements * a .stride) 4294967295) (found (a .elements * a .stride)) (refused sizeOverflow)
 
@@ -103,7 +103,7 @@ userFbOf i t = indexed noEntry (t .userFbs) i
 abbrev pub constantOf : {T : Type 0} → ℕ → List (Constant T) → Got (Constant T)
 constantOf i cs = indexed (invalidConstantIndex i) cs i
 
--- the number that a constant of type `kind` is, in `width` bytes
+-- a constant of type `kind` as a number of `width` bytes
 abbrev pub numberOf : {T : Type 0} → ℕ → ℕ → ℕ → List (Constant T) → Got ℕ
 numberOf kind width i cs = constantOf i cs >>= asNumber kind width
 
@@ -120,7 +120,7 @@ functionOf i c = indexed noFunction (c .functions) i
 abbrev pub functionBytesOf : {T : Type 0} → Keep T → ℕ → Code → Got T
 functionBytesOf keep i c = functionOf i c >>= bytecodeOf keep (c .bytecode)
 
--- an enumeration is answered by its name and how many values it has; the values are asked for one by one
+-- the answer for an enumeration is its name and its value count; values are looked up one by one
 pub record EnumerationHead (T : Type 0) : Type 0 where
   pub named : T
   pub valueCount : ℕ
@@ -131,7 +131,7 @@ enumerationOf i t = indexed noEntry (t .enumerations) i >>= λ e. found (record 
 abbrev pub enumerationValueOf : {T : Type 0} → ℕ → ℕ → Tables T → Got T
 enumerationValueOf i j t = indexed noEntry (t .enumerations) i >>= λ e. indexed noEntry (e .values) j
 
--- Every lookup, named once. `T` is what stands for a string, a function's bytecode, a name or a path
+-- Every lookup, named once. `T` stands for a string, a function's bytecode, a name or a path
 
 -- the lookups of what the machine runs
 pub record RunAnswers (T : Type 0) : Type 0 where
@@ -165,7 +165,7 @@ pub record DebugAnswers (T : Type 0) : Type 0 where
   pub enumeration : ℕ → Got (EnumerationHead T)
   pub enumerationValue : ℕ → ℕ → Got T
 
--- the answers that tables give, or the refusals that stand in for them
+-- the answers from the tables, or the refusals in their place
 abbrev pub runAnswersOf : {T : Type 0} → Keep T → Got TaskTable → Got TypeTables → Got (List (Constant T)) → Got Code → RunAnswers T
 runAnswersOf keep tasks types constants code =
     record {
@@ -210,7 +210,7 @@ runAnswers f r = runAnswersOf (byPlace (r .header .directory .code)) (tasksIn f 
 abbrev pub debugAnswers : List ℕ → Container → DebugAnswers Place
 debugAnswers f r = debugAnswersOf (debugIn byPlace f r)
 
--- The same with places in the file aside: each part by its bytes
+-- The same, "places in the file aside": each part by its bytes
 
 abbrev pub runByBytes : List ℕ → RunAnswers Place → RunAnswers (List ℕ)
 runByBytes f a =

@@ -1,4 +1,5 @@
--- The order of refusals in lookups, whatever the record is. Each lookup reads its section first, so these hold of every lookup in it.
+-- The order of refusals in lookups, for any record (document 01: "both before 11 to 17 and 29"). Each lookup reads its section first, so what holds of reading the section
+-- holds of every lookup in it.
 use Prim.Native.Nat.{ℕ, _<_, _≤_}
 use mathlib.Core.Path.{_≡_}
 use mathlib.Core.List.{List}
@@ -36,7 +37,7 @@ pub record PlaceThen (f : List ℕ) (r : Container) : Type 0 where
   pub code : (Inside f (r .header .directory .code) → ⊥) → codeIn f r ≡ refused sectionSizeMismatch
   pub debug : (c : DebugCounts) → r .debug ≡ some c → (Inside f (r .header .directory .debug) → ⊥) → debugIn byPlace f r ≡ refused noDebug
 
--- then what reading the section's part of the file gives, its own refusal or its tables, for debug 15 in place of any refusal
+-- then what reading the section gives: its own refusal or its tables; for debug 15 in place of any refusal
 pub record SectionThen (f : List ℕ) (r : Container) : Type 0 where
   pub tasks : (let p = r .header .directory .tasks in Inside f p → tasksIn f r ≡ itemOf (taskTable (cut f p)))
   pub types : (let p = r .header .directory .types in (c : TypeCounts) → r .types ≡ some c → Inside f p → typesIn f r ≡ itemOf (typeTables (cut f p)))

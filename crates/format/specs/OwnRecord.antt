@@ -1,5 +1,5 @@
--- What the answers over a file and a record are: at the places in them stand the bytes that the tables hold; and over a file and the
--- record read from it, every lookup is indexing into what was loaded.
+-- What the answers mean: the bytes at an answered place are those that the tables hold; and over a file and the record read from it,
+-- every lookup is indexing into what was loaded.
 use Prim.Native.Nat.{ℕ}
 use mathlib.Core.Path.{_≡_}
 use mathlib.Core.List.{List}

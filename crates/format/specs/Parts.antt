@@ -1,17 +1,29 @@
--- Parts of a file: a section's place, what it is to lie inside, and how a part of a section is kept.
+-- Parts of a file: a section's place, whether it lies in the file, and how a part of a section is kept.
 use Prim.Native.Nat.{ℕ, _+_, _-_, _≤_}
 use mathlib.Core.Bool.{Bool, true, false, _&&_}
 use mathlib.Core.List.{List, [], _∷_}
 use lib.Dec.{leb, eqb}
 use lib.ListN.{length, take, drop}
 
--- the most bytes that a file may have
+-- document 01, 10 TooLong: the most bytes a file may have
 abbrev pub limit : ℕ
 limit = 65536
 
--- the most bytes that the hash is asked for alone
+-- the most bytes of a file that a program takes, whatever the library's limit is
+abbrev pub programLimit : ℕ
+programLimit = 65536
+
+-- document 01, 10 TooLong, "hash asked alone": the most bytes that may be hashed
 abbrev pub hashLimit : ℕ
 hashLimit = 261376
+
+-- the bytes of the header
+abbrev pub headerSize : ℕ
+headerSize = 256
+
+-- the bytes of a hash
+abbrev pub hashSize : ℕ
+hashSize = 32
 
 -- `size` bytes from the place `at` on
 abbrev pub part : ℕ → ℕ → List ℕ → List ℕ
@@ -28,11 +40,11 @@ cut f p = part (p .offset) (p .size) f
 
 -- Document 01's "in the file behind the header": not before byte 256 and not past the end, also at size 0
 unfoldable pub isInside : List ℕ → Place → Bool
-isInside f p = leb 256 (p .offset) && leb (p .offset + p .size) (length f)
+isInside f p = leb headerSize (p .offset) && leb (p .offset + p .size) (length f)
 
 -- the same as a fact
 pub record Inside (f : List ℕ) (p : Place) : Type 0 where
-  pub behind : 256 ≤ p .offset
+  pub behind : headerSize ≤ p .offset
   pub within : p .offset + p .size ≤ length f
 
 -- two lists of bytes are the same
@@ -42,7 +54,7 @@ same [] (b ∷ t) = false
 same (a ∷ s) [] = false
 same (a ∷ s) (b ∷ t) = eqb a b && same s t
 
--- How a string, a name or a path of a section is kept: from its bytes, and from how many bytes of the section are left behind it
+-- How a string, a name or a path of a section is kept: a function of its bytes and of how many bytes of the section follow it
 
 abbrev pub Keep : Type 0 → Type 0
 Keep T = List ℕ → ℕ → T

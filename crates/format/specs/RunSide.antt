@@ -6,7 +6,7 @@ use mathlib.Core.Option.{Option}
 use lib.ListN.{length, getD}
 use Rattle.reading.specs.Numbers.{leAt}
 use Rattle.reading.specs.Answer.{found, _>>=_}
-use Rattle.format.specs.Parts.{limit, part, Place, cut, Inside}
+use Rattle.format.specs.Parts.{limit, headerSize, part, Place, cut, Inside}
 use Rattle.format.specs.Header.{Runtime, Header, directoryOf, withoutDebugBit}
 use Rattle.format.specs.Tasks.{TaskTable}
 use Rattle.format.specs.Types.{TypeTables}
@@ -48,7 +48,7 @@ pub record SameRunSide (f g : List ℕ) : Type 0 where
   pub constants : SameSection f (directoryOf f .constants) g (directoryOf g .constants)
   pub code : SameSection f (directoryOf f .code) g (directoryOf g .code)
 
--- To agree byte by byte: of the 256 bytes all are compared but the debug hash, the directory, and byte 7, which has a line of its own
+-- Agreement byte by byte: all of the header's bytes are compared except the debug hash, the directory, and byte 7, which is compared without the debug bit
 
 pub data Compared : ℕ → Type 0 where
   identification : {i : ℕ} → i < 7 → Compared i
@@ -60,10 +60,10 @@ pub record BytesAgree (f g : List ℕ) : Type 0 where
   pub bytes : (i : ℕ) → Compared i → getD f i 0 ≡ getD g i 0
   pub flags : withoutDebugBit (leAt 1 f 7) ≡ withoutDebugBit (leAt 1 g 7)
 
--- the premises say that both files have a whole header; and for files that have one, to agree byte by byte is enough
+-- the premises imply that both files have a whole header; and for files that have one, agreeing byte by byte is enough
 pub record Premises : Type 0 where
-  pub whole-headers : (f g : List ℕ) → SameRunSide f g → (256 ≤ length f) × (256 ≤ length g)
-  pub byte-by-byte : (f g : List ℕ) → 256 ≤ length f → 256 ≤ length g → BytesAgree f g → HeadersAgree f g
+  pub whole-headers : (f g : List ℕ) → SameRunSide f g → (headerSize ≤ length f) × (headerSize ≤ length g)
+  pub byte-by-byte : (f g : List ℕ) → headerSize ≤ length f → headerSize ≤ length g → BytesAgree f g → HeadersAgree f g
 
 -- Document 01's "What the machine runs": the loaded header outside the exempted fields, the tables of tasks, types, constants and code,
 -- and for every question each answer of the lookups in them, the file with its own record, parts by their bytes

@@ -18,7 +18,7 @@ pub record Task : Type 0 where
   pub outputImageOffset : ℕ
   pub reserved : List ℕ
 
--- entry 32; its bytes are all there before its type is looked at
+-- entry 32; all its bytes are read before its type is checked, so a short entry gives 1
 unfoldable pub task : Reader Task
 task = do
   id ← u16

@@ -50,7 +50,7 @@ isString kind = eqb kind 6 || eqb kind 7
 abbrev pub naturalStride : ℕ → ℕ → ℕ
 naturalStride kind extra = cond (eqb kind 6) (6 + extra) (cond (eqb kind 7) (6 + 2 * extra) 8)
 
--- strings may have more than the natural stride, others have exactly that
+-- document 01: "Strings may have more, others exactly that"
 abbrev pub strideFits : ℕ → ℕ → ℕ → Bool
 strideFits kind extra stride = cond (isString kind) (leb (naturalStride kind extra) stride) (eqb stride (naturalStride kind extra))
 
@@ -65,7 +65,7 @@ array = do
   check (strideFits kind extra stride) (invalidArrayStride kind stride)
   give (record { kind = kind; elements = elements; extra = extra; stride = stride })
 
--- bytes to a character of a string element, as the Rust has it: 2 for wide strings, 1 for any other type
+-- bytes per character of a string element, as in the Rust: 2 for wide strings, 1 for any other type
 abbrev pub elementCharWidth : Array → ℕ
 elementCharWidth a = cond (eqb (a .kind) 7) 2 1
 
@@ -87,7 +87,7 @@ userFb = do
   reserved ← u8
   give (record { id = id; function = function; variableOffset = variableOffset; fieldCount = fieldCount })
 
--- The section: fewer than two bytes left after the arrays mean zero user FBs
+-- The section; document 01: "Fewer than two bytes left after the arrays means zero user FBs"
 
 pub record TypeTables : Type 0 where
   pub fbTypes : List FbType

@@ -1,5 +1,4 @@
-// Document 01 as definitions, in `specs/`. There is no code: each function has an empty body, and its contract makes the
-// check prove what is claimed of the definitions.
+// Document 01 as definitions, in `specs/`. Empty body: the contract makes the checker prove what is claimed of them.
 ghost use Rattle.format.specs.Claims.{AllClaims};
 
 // Every claim of `specs/Claims.antt` holds, for any hash.

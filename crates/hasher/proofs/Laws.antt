@@ -5,6 +5,7 @@ use Prim.Native.Nat.{ℕ, _*_, _≤_}
 use native.Mathlib.Omega.{arith}
 use lib.ListN.{take, length-take}
 use lib.Seq.{take-at, take-take, take-all}
+use Rattle.compression.specs.Sizes.{chunkLen}
 use Rattle.hasher.specs.Hash.{hashWords}
 use Rattle.hasher.specs.Stack.{levels, valuesOf, waiting}
 use Rattle.hasher.specs.State.{start, capacity, fed, finished}
@@ -23,13 +24,13 @@ reached : (bs : List ℕ) → Reached (fed start bs) (take capacity bs)
 unfolding fed
 reached bs = reached-fed start [] (take capacity bs) reached-start (omega (arith, length-take capacity bs))
 
--- what waits is that of the finished chunks
-waits : (h : Hasher) (bs : List ℕ) → Reached h (take capacity bs) → valuesOf (h .stack) ≡ waiting levels 0 (take (1024 * h .chunks) bs)
+-- the values that wait are those of the finished chunks
+waits : (h : Hasher) (bs : List ℕ) → Reached h (take capacity bs) → valuesOf (h .«cv_stack») ≡ waiting levels 0 (take (chunkLen * h .«chunk_counter») bs)
 waits h bs r =
     let f = r .holds in
-    let k : 1024 * h .chunks ≤ capacity = omega (arith, f .few) in
+    let k : chunkLen * h .«chunk_counter» ≤ capacity = omega (arith, f .few) in
     f .stack .values
-    ∙ ap (waiting levels 0) (sym (sym (take-take (1024 * h .chunks) capacity bs k) ∙ ap (take (1024 * h .chunks)) (f .bytes) ∙ take-at (f .fs) (f .ds ++ f .ps) (1024 * h .chunks) (f .whole)))
+    ∙ ap (waiting levels 0) (sym (sym (take-take (chunkLen * h .«chunk_counter») capacity bs k) ∙ ap (take (chunkLen * h .«chunk_counter»)) (f .bytes) ∙ take-at (f .fs) (f .ds ++ f .ps) (chunkLen * h .«chunk_counter») (f .whole)))
 
 pub laws : Laws
 laws = record {

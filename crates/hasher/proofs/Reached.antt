@@ -1,20 +1,22 @@
--- What a state holds once bytes were fed, and that feeding keeps it so.
+-- What a state holds after bytes were fed, and that feeding keeps it so.
 use mathlib.Core.Path.{_≡_, refl, sym, ap, ap₂, _∙_}
 use mathlib.Core.List.{List, [], _∷_, _++_, append-assoc, append-nil}
-use Prim.Native.Nat.{ℕ, _+_, _*_, _-_, _%_, _^_, _≤_, _<_}
+use Prim.Native.Nat.{ℕ, _+_, _*_, _-_, _^_, _≤_, _<_}
 use native.Mathlib.Nat.{zero-add}
 use native.Mathlib.Omega.{arith}
 use native.Mathlib.Decide.{decLt}
 use native.Mathlib.Numerals.{add-one}
 use lib.ListN.{length, set, length-append}
 use borrow.Author.Tests.{lt-ltb, le-ltb}
+use Rattle.compression.specs.Sizes.{blockLen, chunkLen, lastBlock}
 use Rattle.compression.specs.Word.{words}
 use Rattle.compression.specs.Compression.{iv}
 use Rattle.compression.specs.Laws.{words-filled}
-use Rattle.hasher.specs.Hash.{valueOf, chunkOf, rootOf, hashWords}
+use Rattle.wide.specs.Lanes.{counterAfter}
+use Rattle.hasher.specs.Hash.{chainingValue, chunkOutput, rootWords, hashWords, maxDepth}
 use Rattle.hasher.specs.Stack.{levels, under}
 use Rattle.compression.specs.Chain.{chained}
-use Rattle.hasher.specs.State.{filled, start, nodeWith, nextBlock, chunkDone, nextChunk, advanced, withRoom, absorbed, fedFreely, finished}
+use Rattle.hasher.specs.State.{filled, start, outputWith, nextBlock, chunkDone, nextChunk, advanced, withRoom, absorbed, fedFreely, finished}
 use Rattle.hasher.specs.declared.Hasher.{Hasher}
 use Rattle.hasher.proofs.Tree.{treeFrom, tree-deeper, waiting-none, under-waiting}
 use Rattle.hasher.proofs.Chunks.{chunk-blocks, chained-more, filled-more}
@@ -26,20 +28,20 @@ pub record Holds (h : Hasher) (bs : List ℕ) : Type 0 where
   pub ds : List ℕ
   pub ps : List ℕ
   pub bytes : bs ≡ fs ++ (ds ++ ps)
-  pub whole : length fs ≡ 1024 * h .chunks
-  pub taken : length ds ≡ 64 * h .blocks
-  pub held : length ps ≡ h .len
-  pub cv : h .cv ≡ chained (h .blocks) iv (h .chunks) 0 ds
-  pub block : h .block ≡ filled (h .len) ps
-  pub blocks : h .blocks ≤ 15
-  pub len : h .len ≤ 64
-  pub few : h .chunks < 2 ^ levels
-  pub stack : Waits (h .stack) fs
+  pub whole : length fs ≡ chunkLen * h .«chunk_counter»
+  pub taken : length ds ≡ blockLen * h .«blocks_compressed»
+  pub held : length ps ≡ h .«block_len»
+  pub cv : h .«chaining_value» ≡ chained (h .«blocks_compressed») iv (h .«chunk_counter») 0 ds
+  pub block : h .block ≡ filled (h .«block_len») ps
+  pub blocks : h .«blocks_compressed» ≤ lastBlock
+  pub len : h .«block_len» ≤ blockLen
+  pub few : h .«chunk_counter» < 2 ^ levels
+  pub stack : Waits (h .«cv_stack») fs
 
 -- And feeding left it so: the block has a byte, unless nothing was fed.
 pub record Reached (h : Hasher) (bs : List ℕ) : Type 0 where
   pub holds : Holds h bs
-  pub some : 0 < h .blocks + h .chunks → 0 < h .len
+  pub some : 0 < h .«blocks_compressed» + h .«chunk_counter» → 0 < h .«block_len»
 
 pub reached-start : Reached start []
 unfolding chained
@@ -67,26 +69,26 @@ module _ (h : Hasher) (bs : List ℕ) (f : Holds h bs) where
   abbrev current : List ℕ
   current = f .ds ++ f .ps
 
-  length-current : length current ≡ 64 * h .blocks + h .len
+  length-current : length current ≡ blockLen * h .«blocks_compressed» + h .«block_len»
   length-current = omega (arith, length-append (f .ds) (f .ps))
 
-  length-all : length bs ≡ 1024 * h .chunks + 64 * h .blocks + h .len
+  length-all : length bs ≡ chunkLen * h .«chunk_counter» + blockLen * h .«blocks_compressed» + h .«block_len»
   length-all = omega (arith, ap length (f .bytes), length-append (f .fs) current, length-current)
 
   words-held : words (h .block) ≡ words (f .ps)
-  words-held = ap words (f .block) ∙ words-filled (f .ps) (64 - h .len)
+  words-held = ap words (f .block) ∙ words-filled (f .ps) (blockLen - h .«block_len»)
 
-  -- the node of the current chunk
-  node-current : (0 < h .blocks → 0 < h .len) → nodeWith h (words (h .block)) (h .len) ≡ chunkOf (h .chunks) current
-  node-current p =
+  -- the output of the current chunk
+  output-current : (0 < h .«blocks_compressed» → 0 < h .«block_len») → outputWith h (words (h .block)) (h .«block_len») ≡ chunkOutput (h .«chunk_counter») current
+  output-current p =
       cc (
         words-held,
-        zero-add (h .blocks),
-        chunk-blocks 15 (h .blocks) iv 0 (h .chunks) (f .ds) (f .ps) (f .blocks) (f .taken) (omega arith) (λ z. omega (arith, p z)),
+        zero-add (h .«blocks_compressed»),
+        chunk-blocks lastBlock (h .«blocks_compressed») iv 0 (h .«chunk_counter») (f .ds) (f .ps) (f .blocks) (f .taken) (omega arith) (λ z. omega (arith, p z)),
       )
 
   -- a full block is taken in
-  holds-block : h .len ≡ 64 → h .blocks < 15 → Holds (nextBlock h (words (h .block))) bs
+  holds-block : h .«block_len» ≡ blockLen → h .«blocks_compressed» < lastBlock → Holds (nextBlock h (words (h .block))) bs
   unfolding nextBlock
   holds-block l k = record {
     fs = f .fs;
@@ -96,7 +98,7 @@ module _ (h : Hasher) (bs : List ℕ) (f : Holds h bs) where
     whole = f .whole;
     taken = omega (arith, length-current);
     held = refl;
-    cv = cc (words-held, zero-add (h .blocks), add-one (h .blocks), chained-more (h .blocks) iv (h .chunks) 0 (f .ds) (f .ps) (f .taken));
+    cv = cc (words-held, zero-add (h .«blocks_compressed»), add-one (h .«blocks_compressed»), chained-more (h .«blocks_compressed») iv (h .«chunk_counter») 0 (f .ds) (f .ps) (f .taken));
     block = refl;
     blocks = omega arith;
     len = omega arith;
@@ -105,13 +107,13 @@ module _ (h : Hasher) (bs : List ℕ) (f : Holds h bs) where
   }
 
   -- a full chunk is finished
-  holds-chunk : h .len ≡ 64 → h .blocks ≡ 15 → h .chunks + 1 < 2 ^ levels → Holds (nextChunk h (words (h .block))) bs
+  holds-chunk : h .«block_len» ≡ blockLen → h .«blocks_compressed» ≡ lastBlock → h .«chunk_counter» + 1 < 2 ^ levels → Holds (nextChunk h (words (h .block))) bs
   unfolding chunkDone nextChunk chained
   holds-chunk l k few =
-      let size : length current ≡ 1024 = omega (arith, length-current) in
-      let counted : (h .chunks + 1) % 2 ^ 64 ≡ h .chunks + 1 = omega arith in
-      let last : nodeWith h (words (h .block)) 64 ≡ chunkOf (h .chunks) current =
-      ap (nodeWith h (words (h .block))) (sym l) ∙ node-current (λ z. omega arith) in
+      let size : length current ≡ chunkLen = omega (arith, length-current) in
+      let counted : counterAfter (h .«chunk_counter») 1 ≡ h .«chunk_counter» + 1 = omega arith in
+      let last : outputWith h (words (h .block)) blockLen ≡ chunkOutput (h .«chunk_counter») current =
+      ap (outputWith h (words (h .block))) (sym l) ∙ output-current (λ z. omega arith) in
       record {
         fs = f .fs ++ current;
         ds = [];
@@ -125,25 +127,25 @@ module _ (h : Hasher) (bs : List ℕ) (f : Holds h bs) where
         blocks = omega arith;
         len = omega arith;
         few = omega arith;
-        stack = rw (counted, ap valueOf last) (waits-more (h .stack) (f .fs) (f .stack) (h .chunks) current (f .whole) few size);
+        stack = rw (counted, ap chainingValue last) (waits-more (h .«cv_stack») (f .fs) (f .stack) (h .«chunk_counter») current (f .whole) few size);
       }
 
   -- more input follows
-  holds-room : length bs < 1024 * 2 ^ levels → Holds (withRoom h) bs × (withRoom h .len < 64)
+  holds-room : length bs < chunkLen * 2 ^ levels → Holds (withRoom h) bs × (withRoom h .«block_len» < blockLen)
   unfolding withRoom advanced nextBlock chunkDone nextChunk
-  holds-room size = elim (decLt (h .len) 64) [
-    | yes q ↦ rw (lt-ltb (h .len) 64 q) (f, q)
+  holds-room size = elim (decLt (h .«block_len») blockLen) [
+    | yes q ↦ rw (lt-ltb (h .«block_len») blockLen q) (f, q)
     | no q ↦
-        let full : h .len ≡ 64 = omega arith in
-        rw (le-ltb (h .len) 64 (omega arith)) (elim (decLt (h .blocks) 15) [
-          | yes k ↦ rw (lt-ltb (h .blocks) 15 k) (holds-block full k, omega arith)
-          | no k ↦ rw (le-ltb (h .blocks) 15 (omega arith)) (holds-chunk full (omega arith) (omega (arith, length-all)), omega arith)
+        let full : h .«block_len» ≡ blockLen = omega arith in
+        rw (le-ltb (h .«block_len») blockLen (omega arith)) (elim (decLt (h .«blocks_compressed») lastBlock) [
+          | yes k ↦ rw (lt-ltb (h .«blocks_compressed») lastBlock k) (holds-block full k, omega arith)
+          | no k ↦ rw (le-ltb (h .«blocks_compressed») lastBlock (omega arith)) (holds-chunk full (omega arith) (omega (arith, length-all)), omega arith)
         ])
   ]
 
   -- one more byte in the block
-  holds-byte : (b : ℕ) → h .len < 64
-      → Holds (record { cv = h .cv; block = set (h .block) (h .len) b; len = h .len + 1; blocks = h .blocks; stack = h .stack; chunks = h .chunks }) (bs ++ (b ∷ []))
+  holds-byte : (b : ℕ) → h .«block_len» < blockLen
+      → Holds (record { «chaining_value» = h .«chaining_value»; block = set (h .block) (h .«block_len») b; «block_len» = h .«block_len» + 1; «blocks_compressed» = h .«blocks_compressed»; «cv_stack» = h .«cv_stack»; «chunk_counter» = h .«chunk_counter» }) (bs ++ (b ∷ []))
   holds-byte b l = record {
     fs = f .fs;
     ds = f .ds;
@@ -153,7 +155,7 @@ module _ (h : Hasher) (bs : List ℕ) (f : Holds h bs) where
     taken = f .taken;
     held = omega (arith, length-append (f .ps) (b ∷ []));
     cv = f .cv;
-    block = ap (λ (x : List ℕ). set x (h .len) b) (f .block) ∙ filled-more (h .len) (f .ps) b (f .held) l;
+    block = ap (λ (x : List ℕ). set x (h .«block_len») b) (f .block) ∙ filled-more (h .«block_len») (f .ps) b (f .held) l;
     blocks = f .blocks;
     len = omega arith;
     few = f .few;
@@ -161,13 +163,13 @@ module _ (h : Hasher) (bs : List ℕ) (f : Holds h bs) where
   }
 
 -- one more byte
-reached-absorbed : (h : Hasher) (bs : List ℕ) (b : ℕ) → Holds h bs → length bs < 1024 * 2 ^ levels → Reached (absorbed h b) (bs ++ (b ∷ []))
+reached-absorbed : (h : Hasher) (bs : List ℕ) (b : ℕ) → Holds h bs → length bs < chunkLen * 2 ^ levels → Reached (absorbed h b) (bs ++ (b ∷ []))
 unfolding absorbed
 reached-absorbed h bs b f size =
     let room = holds-room h bs f size in
     record { holds = holds-byte (withRoom h) bs (room .0) b (room .1); some = λ z. omega arith }
 
-pub reached-fed : (h : Hasher) (bs cs : List ℕ) → Reached h bs → length bs + length cs ≤ 1024 * 2 ^ levels → Reached (fedFreely h cs) (bs ++ cs)
+pub reached-fed : (h : Hasher) (bs cs : List ℕ) → Reached h bs → length bs + length cs ≤ chunkLen * 2 ^ levels → Reached (fedFreely h cs) (bs ++ cs)
 unfolding fedFreely
 reached-fed h bs [] r size = rw append-nil r
 reached-fed h bs (c ∷ cs) r size =
@@ -181,8 +183,8 @@ reached-finished h bs r =
     let f = r .holds in
     let cs = current h bs f in
     let size = length-current h bs f in
-    ap rootOf
-    (ap₂ under (node-current h bs f (λ z. r .some (omega arith))) (f .stack .values)
-    ∙ rw zero-add at (under-waiting levels 0 (h .chunks) (f .fs) cs (f .whole) (f .few) (omega arith) (λ z. omega (arith, r .some (omega arith))))
+    ap rootWords
+    (ap₂ under (output-current h bs f (λ z. r .some (omega arith))) (f .stack .values)
+    ∙ rw zero-add at (under-waiting levels 0 (h .«chunk_counter») (f .fs) cs (f .whole) (f .few) (omega arith) (λ z. omega (arith, r .some (omega arith))))
     ∙ ap (treeFrom levels 0) (sym (f .bytes))
-    ∙ sym (tree-deeper levels 54 0 bs (omega (arith, length-all h bs f)) (omega arith)))
+    ∙ sym (tree-deeper levels maxDepth 0 bs (omega (arith, length-all h bs f)) (omega arith)))

@@ -1,4 +1,4 @@
--- How many bytes a state has taken in, and that no part is fed beyond the capacity.
+-- How many bytes a state has taken in, and that nothing is fed beyond the capacity.
 use mathlib.Core.Path.{_≡_, refl, sym, ap, _∙_}
 use mathlib.Core.List.{List, [], _∷_, _++_}
 use mathlib.Core.Logic.{⊎-elim}
@@ -6,23 +6,24 @@ use Prim.Native.Nat.{ℕ, zero, suc, _+_, _-_, _≤_, _<_, min}
 use native.Mathlib.Omega.{arith}
 use lib.ListN.{length, take, length-take}
 use lib.Seq.{take-all}
+use Rattle.compression.specs.Sizes.{blockLen, lastBlock}
 use Rattle.compression.specs.Word.{words}
 use Rattle.hasher.specs.State.{nextBlock, chunkDone, nextChunk, withRoom, absorbed, fedFreely, capacity, fill, fed}
 use Rattle.hasher.specs.declared.Hasher.{Hasher}
 use Rattle.hasher.proofs.Stacking.{lt-or-le}
 use Rattle.hasher.proofs.Feeding.{advanced-block, advanced-chunk, room-there, room-made, fed-append}
 
--- room for a byte, made or there
-room-fill : (h : Hasher) → fill h < capacity → (fill (withRoom h) ≡ fill h) × (withRoom h .len < 64)
+-- room for a byte, already there or made
+room-fill : (h : Hasher) → fill h < capacity → (fill (withRoom h) ≡ fill h) × (withRoom h .«block_len» < blockLen)
 unfolding nextBlock chunkDone nextChunk
 room-fill h p =
     ⊎-elim
-    (λ (q : h .len < 64). rw (room-there h q) (refl, q))
-    (λ (q : 64 ≤ h .len). ⊎-elim
-    (λ (b : h .blocks < 15). rw (room-made h q, advanced-block h (words (h .block)) b) (omega arith, omega arith))
-    (λ (b : 15 ≤ h .blocks). rw (room-made h q, advanced-chunk h (words (h .block)) b) (omega arith, omega arith))
-    (lt-or-le (h .blocks) 15))
-    (lt-or-le (h .len) 64)
+    (λ (q : h .«block_len» < blockLen). rw (room-there h q) (refl, q))
+    (λ (q : blockLen ≤ h .«block_len»). ⊎-elim
+    (λ (b : h .«blocks_compressed» < lastBlock). rw (room-made h q, advanced-block h (words (h .block)) b) (omega arith, omega arith))
+    (λ (b : lastBlock ≤ h .«blocks_compressed»). rw (room-made h q, advanced-chunk h (words (h .block)) b) (omega arith, omega arith))
+    (lt-or-le (h .«blocks_compressed») lastBlock))
+    (lt-or-le (h .«block_len») blockLen)
 
 -- one more byte
 byte-fill : (h : Hasher) (b : ℕ) → fill h < capacity → fill (absorbed h b) ≡ fill h + 1
@@ -48,7 +49,7 @@ take-append zero a b = let e : 0 - length a ≡ 0 = omega arith in rw e
 take-append (suc n) [] b = let e : suc n - 0 ≡ suc n = omega arith in rw e
 take-append (suc n) (x ∷ a) b = let e : suc n - suc (length a) ≡ n - length a = omega arith in rw e (ap (λ (l : List ℕ). x ∷ l) (take-append n a b))
 
--- what room a first part leaves
+-- the room that a first part leaves
 left-room : (room f n : ℕ) {k : ℕ} → k ≡ f + min (room - f) n → room - k ≡ (room - f) - n
 left-room room f n e = rw e (omega arith)
 
@@ -90,7 +91,7 @@ take-cut r bs k e =
     (λ (p : length bs ≤ r). take-all k bs (cut-none r (length bs) k e p) ∙ sym (take-all r bs p))
     (lt-or-le r (length bs))
 
--- cut at once, by what the state says that it has taken in
+-- the input cut once, by how much the state has taken in
 pub fed-cut : (h : Hasher) (bs : List ℕ) {k n : ℕ} → k ≡ min (fill h) capacity → n ≡ min (capacity - k) (length bs) → fedFreely h (take n bs) ≡ fed h bs
 unfolding fed
 fed-cut h bs {k} {n} ek en =

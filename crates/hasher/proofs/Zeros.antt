@@ -1,4 +1,4 @@
--- The trailing zero bits of a count, by which the values that wait are joined.
+-- The trailing zero bits of a count, which give the number of joins.
 use mathlib.Core.Path.{_≡_, refl, ap}
 use Prim.Native.Nat.{ℕ, zero, suc, _+_, _/_, _%_, _^_, _≤_, _<_}
 use native.Mathlib.Nat.{not-suc-le-zero, le-of-suc-le-suc}
@@ -16,7 +16,7 @@ zeros-pow (suc w) (suc d) h =
     let half : 2 ^ suc d / 2 ≡ 2 ^ d = omega arith in
     rw (even, half) (ap suc (zeros-pow w d (le-of-suc-le-suc h)))
 
--- a power of two above a number changes none of its trailing zeros
+-- adding a larger power of two changes no trailing zeros
 pub zeros-add : (w d m : ℕ) → 0 < m → m < 2 ^ d → trailingZeros w (2 ^ d + m) ≡ trailingZeros w m
 unfolding trailingZeros
 zeros-add zero d m p h = refl

@@ -1,15 +1,16 @@
--- What is claimed of feeding: in any division into parts, from the start on, it gives BLAKE3's digest; and few values wait.
+-- The claims about feeding: from the start and in any division into parts, it gives BLAKE3's digest; and few values wait.
 use mathlib.Core.Path.{_≡_}
 use mathlib.Core.List.{List, [], _∷_, _++_}
 use Prim.Native.Nat.{ℕ, suc, _+_, _*_, _-_, _/_, _^_, _≤_, _<_, min}
 use lib.ListN.{length, take, drop}
+use Rattle.compression.specs.Sizes.{chunkLen}
 use Rattle.hasher.specs.Tree.{node}
-use Rattle.hasher.specs.Hash.{valueOf, parentOf, chunkOf, hashWords}
+use Rattle.hasher.specs.Hash.{chainingValue, parentOutput, chunkOutput, hashWords}
 use Rattle.hasher.specs.Stack.{levels, valuesOf, waiting}
 use Rattle.hasher.specs.State.{start, capacity, fill, fed, finished}
 use Rattle.hasher.specs.declared.Hasher.{Hasher}
 
--- the parts one behind the other, and a state fed with each in turn
+-- the parts one after the other, and a state fed with each in turn
 abbrev pub joinedParts : List (List ℕ) → List ℕ
 joinedParts [] = []
 joinedParts (p ∷ ps) = p ++ joinedParts ps
@@ -18,27 +19,27 @@ abbrev pub fedParts : Hasher → List (List ℕ) → Hasher
 fedParts h [] = h
 fedParts h (p ∷ ps) = fedParts (fed h p) ps
 
--- how many chunks of 1,024 bytes, the last perhaps short, so many bytes are
+-- how many chunks, the last perhaps short, n bytes are
 abbrev pub chunkCount : ℕ → ℕ
-chunkCount n = (n + 1023) / 1024
+chunkCount n = (n + (chunkLen - 1)) / chunkLen
 
 pub record Laws : Type 0 where
-  -- any state: parts may be put together
+  -- in any state: feeding parts is feeding their concatenation
   pub parts : (h : Hasher) (ps : List (List ℕ)) → fedParts h ps ≡ fed h (joinedParts ps)
-  -- any state: every byte counts as one, up to the capacity
+  -- in any state: every byte counts as one, up to the capacity
   pub fills : (h : Hasher) (bs : List ℕ) → fill (fed h bs) ≡ fill h + min (capacity - fill h) (length bs)
-  -- a full state stays as it is
+  -- a full state does not change
   pub full : (h : Hasher) (bs : List ℕ) → capacity ≤ fill h → fed h bs ≡ h
-  -- from the start: the digest, up to the capacity
+  -- from the start, up to the capacity: the digest
   pub digest : (ps : List (List ℕ)) → length (joinedParts ps) ≤ capacity → finished (fedParts start ps) ≡ hashWords (joinedParts ps)
-  -- and what waits is the root of each full subtree of the finished chunks, largest first: no push is lost
-  pub waits : (bs : List ℕ) → valuesOf (fed start bs .stack) ≡ waiting levels 0 (take (1024 * fed start bs .chunks) bs)
-  -- at most as many as there are levels, however much is fed
-  pub few-wait : (bs : List ℕ) → fed start bs .stack .waiting ≤ levels
-  -- and fewer chunks than the capacity has are finished: the last one waits
-  pub few-chunks : (bs : List ℕ) → fed start bs .chunks < 2 ^ levels
-  -- where the tree splits, the left part has the largest power of two of chunks below the whole's count
-  pub split : (d t : ℕ) (bs : List ℕ) → 1024 * 2 ^ d < length bs → length bs ≤ 1024 * 2 ^ suc d
-      → (node chunkOf parentOf valueOf (suc d) t bs
-      ≡ parentOf (valueOf (node chunkOf parentOf valueOf d t (take (1024 * 2 ^ d) bs))) (valueOf (node chunkOf parentOf valueOf d (t + 2 ^ d) (drop (1024 * 2 ^ d) bs))))
+  -- and the values that wait are the roots of the full subtrees of the finished chunks, largest first: no push is lost
+  pub waits : (bs : List ℕ) → valuesOf (fed start bs .«cv_stack») ≡ waiting levels 0 (take (chunkLen * fed start bs .«chunk_counter») bs)
+  -- at most `levels` values wait, however much is fed
+  pub few-wait : (bs : List ℕ) → fed start bs .«cv_stack» .len ≤ levels
+  -- and fewer chunks are finished than the capacity has: the last one waits
+  pub few-chunks : (bs : List ℕ) → fed start bs .«chunk_counter» < 2 ^ levels
+  -- where the tree splits, the left part has the largest power of two of chunks that is below the chunk count of the whole
+  pub split : (d t : ℕ) (bs : List ℕ) → chunkLen * 2 ^ d < length bs → length bs ≤ chunkLen * 2 ^ suc d
+      → (node chunkOutput parentOutput chainingValue (suc d) t bs
+      ≡ parentOutput (chainingValue (node chunkOutput parentOutput chainingValue d t (take (chunkLen * 2 ^ d) bs))) (chainingValue (node chunkOutput parentOutput chainingValue d (t + 2 ^ d) (drop (chunkLen * 2 ^ d) bs))))
       × (2 ^ d < chunkCount (length bs)) × (chunkCount (length bs) ≤ 2 ^ suc d)

@@ -1,50 +1,51 @@
--- The chaining values of finished subtrees that wait to be joined, oldest first.
+-- The stack of chaining values: those of finished subtrees that wait to be joined, oldest first.
 use mathlib.Core.Bool.{cond}
 use mathlib.Core.List.{List, [], _∷_, map}
 use Prim.Native.Nat.{ℕ, zero, suc, _+_, _*_, _-_, _^_, min}
 use lib.Dec.{ltb}
 use lib.ListN.{length, take, drop, set}
+use Rattle.compression.specs.Sizes.{chunkLen}
 use Rattle.hasher.specs.Tree.{node}
-use Rattle.hasher.specs.Hash.{valueOf, parentOf, chunkOf}
-use Rattle.hasher.specs.declared.Node.{Node}
-use Rattle.hasher.specs.declared.Value.{Value}
-use Rattle.hasher.specs.declared.Stack.{Stack}
+use Rattle.hasher.specs.Hash.{chainingValue, parentOutput, chunkOutput}
+use Rattle.hasher.specs.declared.Output.{Output}
+use Rattle.hasher.specs.declared.ChainingValue.{ChainingValue}
+use Rattle.hasher.specs.declared.CvStack.{CvStack}
 
--- At most 2 ^ levels chunks are hashed, so at most as many values as levels wait (document 01: "up to eight chaining values wait")
+-- How many chaining values can wait (document 01: "up to eight chaining values wait"); at most 2 ^ levels chunks are hashed.
 abbrev pub levels : ℕ
 levels = 8
 
-abbrev pub wordsOf : Value → List ℕ
+abbrev pub wordsOf : ChainingValue → List ℕ
 wordsOf v = v .words
 
--- the values that wait in a stack; one that says more than it has room for has as many as it has room for
-abbrev pub valuesOf : Stack → List (List ℕ)
-valuesOf s = map wordsOf (take (s .waiting) (s .values))
+-- the values that wait; a stack whose length is more than its places has as many values as places
+abbrev pub valuesOf : CvStack → List (List ℕ)
+valuesOf s = map wordsOf (take (s .len) (s .values))
 
 -- a value joined with the values s, the newest first
 unfoldable pub joined : List ℕ → List (List ℕ) → List ℕ
 joined c [] = c
-joined c (v ∷ s) = valueOf (parentOf v (joined c s))
+joined c (v ∷ s) = chainingValue (parentOutput v (joined c s))
 
--- a node below the values s: it is joined with the newest first
-unfoldable pub under : Node → List (List ℕ) → Node
-under n [] = n
-under n (v ∷ s) = parentOf v (valueOf (under n s))
+-- the root above the values s and an output, which is joined with the newest first
+unfoldable pub under : Output → List (List ℕ) → Output
+under o [] = o
+under o (v ∷ s) = parentOutput v (chainingValue (under o s))
 
--- The stack after `joins` joins of c with its newest values, and the push of what comes of them. Where fewer wait, all are joined; where
--- all places are taken, what was to be pushed is lost.
-unfoldable pub pushed : Stack → ℕ → List ℕ → Stack
+-- The stack after c was joined `joins` times with its newest values and the result pushed. If fewer values wait, all are joined; if every
+-- place is taken, the result is lost.
+unfoldable pub pushed : CvStack → ℕ → List ℕ → CvStack
 pushed s joins c =
-    let place = min (s .waiting) levels - joins in
+    let place = min (s .len) levels - joins in
     record {
       values = set (s .values) place (record { words = joined c (drop place (valuesOf s)) });
-      waiting = min (place + 1) levels;
+      len = min (place + 1) levels;
     }
 
--- what waits once the bytes fs, whole chunks from the number t on, fewer than 2 ^ d, are finished: the root of each full subtree, largest first
+-- what waits after the bytes fs, which are fewer than 2 ^ d whole chunks from number t on: the root of each full subtree, largest first
 unfoldable pub waiting : ℕ → ℕ → List ℕ → List (List ℕ)
 waiting zero t fs = []
 waiting (suc d) t fs =
     let small = waiting d t fs in
-    let large = valueOf (node chunkOf parentOf valueOf d t (take (1024 * 2 ^ d) fs)) ∷ waiting d (t + 2 ^ d) (drop (1024 * 2 ^ d) fs) in
-    cond (ltb (length fs) (1024 * 2 ^ d)) small large
+    let large = chainingValue (node chunkOutput parentOutput chainingValue d t (take (chunkLen * 2 ^ d) fs)) ∷ waiting d (t + 2 ^ d) (drop (chunkLen * 2 ^ d) fs) in
+    cond (ltb (length fs) (chunkLen * 2 ^ d)) small large

@@ -1,111 +1,117 @@
-// BLAKE3's hash state: fed in any division into parts, and finished. No state is refused; `specs/State.antt` says what
-// every one becomes.
+// BLAKE3's hash state: fed in any division into parts, and finished. No state is refused; `specs/State.antt` says what becomes of each.
 ghost use mathlib.Core.Path.{_≡_};
 ghost use mathlib.Core.List.{List};
-ghost use Prim.Native.Nat.{ℕ, _+_, _*_, _-_, _/_, _%_, _^_, _<_, _≤_, min};
+ghost use Prim.Native.Nat.{ℕ, _+_, _*_, _-_, _/_, _<_, _≤_, min};
 ghost use lib.ListN.{length, drop};
+ghost use Rattle.compression.specs.Sizes.{blockLen, chunkLen, lastBlock};
 ghost use Rattle.compression.specs.Word.{words};
+ghost use Rattle.compression.specs.Compression.{rootFlag};
 ghost use Rattle.compression.specs.Chain.{chained};
 ghost use Rattle.wide.specs.Lanes.{chunkValue};
-ghost use Rattle.hasher.specs.Hash as B;
-ghost use Rattle.hasher.specs.Stack as S;
-ghost use Rattle.hasher.specs.State as T;
-ghost use Rattle.hasher.specs.Whole as W;
+ghost use Rattle.hasher.specs.Hash.{chainingValue, rootWords, parentOutput, hashWords};
+ghost use Rattle.hasher.specs.Stack.{valuesOf, under, pushed};
+ghost use Rattle.hasher.specs.State.{filled, start, outputWith, chunkDone, advanced, fedFreely, capacity, fill, fed, finished};
+ghost use Rattle.hasher.specs.Whole.{chunksDone, atOnce};
 ghost use Rattle.hasher.specs.Laws.{Laws};
+use compression::BLOCK_LEN;
+use compression::CHUNK_END;
+use compression::CHUNK_LEN;
+use compression::LAST_BLOCK;
+use compression::LAST_BLOCK_START;
+use compression::PARENT;
+use compression::ROOT;
 use compression::iv;
 use compression::join;
 use compression::start_flag;
 use compression::words_at;
 use compression::words_of;
-use reading::copy;
+use lent::copy;
 use unrolled::compress;
 use unrolled::compress_in_place;
+use wide::ChunkCounter;
 use wide::chunks4;
+use wide::counter_after;
 
-const BLOCK_LEN: usize = 64;
+const FOUR_CHUNKS: usize = 4 * CHUNK_LEN;
 
-const CHUNK_LEN: usize = 1024;
-
-const FOUR_CHUNKS: usize = 4096;
-
-// The most values that wait.
-const LEVELS: usize = 8;
+// How many chaining values can wait.
+pub const LEVELS: usize = 8;
 
 // The most chunks that a state takes in.
-const CHUNKS: u64 = 1 << LEVELS;
+const CHUNKS: ChunkCounter = 1 << LEVELS;
 
 // The most bytes that a state takes in.
-const CAPACITY: usize = CHUNK_LEN << LEVELS;
+pub const CAPACITY: usize = CHUNK_LEN << LEVELS;
 
-const CHUNK_END: u32 = 2;
-
-const PARENT: u32 = 4;
-
-const ROOT: u32 = 8;
-
-// An output that is not yet finalized: all that its compression takes but the flag ROOT.
-pub struct Node {
-    pub cv: [u32; 8],
-    pub block: [u32; 16],
+// A node before its last compression: all inputs but the flag ROOT.
+pub struct Output {
+    pub input_chaining_value: [u32; 8],
+    pub block_words: [u32; 16],
     pub counter: u64,
-    pub len: u32,
+    pub block_len: u32,
     pub flags: u32,
 }
 
 // The chaining value of a finished subtree.
-pub struct Value {
+pub struct ChainingValue {
     pub words: [u32; 8],
 }
 
-// The values that wait to be joined, oldest first.
-pub struct Stack {
-    pub values: [Value; 8],
-    pub waiting: usize,
+// The values that wait to be joined, oldest first: the first `len` of `values`.
+pub struct CvStack {
+    pub values: [ChainingValue; LEVELS],
+    pub len: usize,
 }
 
 pub struct Hasher {
-    // The chaining value behind the blocks of the current chunk that were taken in.
-    pub cv: [u32; 8],
+    // The chaining value after the blocks of the current chunk that were compressed.
+    pub chaining_value: [u32; 8],
     // The block that waits, and how many bytes it has.
-    pub block: [u8; 64],
-    pub len: u32,
-    // How many blocks of the current chunk were taken in.
-    pub blocks: u32,
-    pub stack: Stack,
-    // How many chunks are finished.
-    pub chunks: u64,
+    pub block: [u8; BLOCK_LEN],
+    pub block_len: u32,
+    // How many blocks of the current chunk were compressed.
+    pub blocks_compressed: u32,
+    pub cv_stack: CvStack,
+    // How many chunks are finished, which is the number of the current one.
+    pub chunk_counter: ChunkCounter,
 }
 
-impl Node {
-    fn value(self) -> [u32; 8]
-        ensures { λ r. ⌜ r ≡ B.valueOf self ⌝ }
+impl Output {
+    fn chaining_value(self) -> [u32; 8]
+        ensures { λ r. ⌜ r ≡ chainingValue self ⌝ }
     {
-        let cv = self.cv;
-        let block = self.block;
-        compress(cv, block, self.counter, self.len, self.flags)
+        let cv = self.input_chaining_value;
+        let block_words = self.block_words;
+        compress(cv, block_words, self.counter, self.block_len, self.flags)
     }
 
-    fn root(self) -> [u32; 8]
-        requires { ⌜ self .flags < 8 ⌝ }
-        ensures { λ r. ⌜ r ≡ B.rootOf self ⌝ }
+    fn root_words(self) -> [u32; 8]
+        requires { ⌜ self .flags < rootFlag ⌝ }
+        ensures { λ r. ⌜ r ≡ rootWords self ⌝ }
     {
-        let cv = self.cv;
-        let block = self.block;
-        compress(cv, block, self.counter, self.len, self.flags + ROOT)
+        let cv = self.input_chaining_value;
+        let block_words = self.block_words;
+        compress(
+            cv,
+            block_words,
+            self.counter,
+            self.block_len,
+            self.flags + ROOT,
+        )
     }
 }
 
-// The node above two subtrees.
-fn parent(left: [u32; 8], right: [u32; 8]) -> Node
-    ensures { λ r. ⌜ r ≡ B.parentOf left right ⌝ }
+// The output of the parent of two subtrees.
+fn parent_output(left: [u32; 8], right: [u32; 8]) -> Output
+    ensures { λ r. ⌜ r ≡ parentOutput left right ⌝ }
 {
-    let block = join(left, right);
+    let block_words = join(left, right);
     let cv = iv();
-    Node {
-        cv: cv,
-        block: block,
+    Output {
+        input_chaining_value: cv,
+        block_words: block_words,
         counter: 0,
-        len: 64,
+        block_len: BLOCK_LEN as u32,
         flags: PARENT,
     }
 }
@@ -116,13 +122,13 @@ fn least(a: usize, b: usize) -> usize
     if a < b { a } else { b }
 }
 
-impl Stack {
-    // `c` is joined with the newest values, as many as `joins`, and what comes of it is pushed.
-    fn push(self, joins: u32, c: [u32; 8]) -> Stack
-        ensures { λ r. ⌜ r ≡ S.pushed self joins c ⌝ }
+impl CvStack {
+    // Joins `c` with the newest `joins` values and pushes the result.
+    fn push(self, joins: u32, c: [u32; 8]) -> CvStack
+        ensures { λ r. ⌜ r ≡ pushed self joins c ⌝ }
     {
         let mut values = self.values;
-        let mut n = least(self.waiting, LEVELS);
+        let mut n = least(self.len, LEVELS);
         let mut left = joins;
         let mut v = c;
         while 0 < left && 0 < n {
@@ -130,165 +136,160 @@ impl Stack {
             left -= 1;
             let older = values[n];
             let l = older.words;
-            let node = parent(l, v);
-            let both = node.value();
+            let output = parent_output(l, v);
+            let both = output.chaining_value();
             v = both;
         }
         if n < LEVELS {
-            values[n] = Value { words: v };
-            return Stack {
+            values[n] = ChainingValue { words: v };
+            return CvStack {
                 values: values,
-                waiting: n + 1,
+                len: n + 1,
             };
         }
-        Stack {
+        CvStack {
             values: values,
-            waiting: n,
+            len: n,
         }
     }
 
     // The root of the tree whose last chunk is `last`.
-    fn root(self, last: Node) -> Node
-        requires { ⌜ last .flags < 8 ⌝ }
-        ensures { λ r. ⌜ (r ≡ S.under last (S.valuesOf self)) × (r .flags < 8) ⌝ }
+    fn root(self, last: Output) -> Output
+        requires { ⌜ last .flags < rootFlag ⌝ }
+        ensures { λ r. ⌜ (r ≡ under last (valuesOf self)) × (r .flags < rootFlag) ⌝ }
     {
         let values = self.values;
-        let mut n = least(self.waiting, LEVELS);
-        let mut node = last;
+        let mut n = least(self.len, LEVELS);
+        let mut output = last;
         while 0 < n {
             n -= 1;
             let older = values[n];
             let l = older.words;
-            let r = node.value();
-            let above = parent(l, r);
-            node = above;
+            let r = output.chaining_value();
+            let above = parent_output(l, r);
+            output = above;
         }
-        node
+        output
     }
 }
 
-// The finished chunk count once one more is finished.
-fn counted(chunks: u64) -> u64
-    ensures { λ r. ⌜ r ≡ (chunks + 1) % 2 ^ 64 ⌝ }
-{
-    std::num::wrapping_add_u64(chunks, 1)
-}
-
-// The chaining value behind `n` whole blocks of `s` from `at` on, the first of them block number `blocks` of chunk `t`.
+// The chaining value after `n` whole blocks of `s` from `at` on, the first of them block number `blocks` of chunk `t`.
 fn chain(cv: [u32; 8], s: &[u8], at: usize, n: usize, t: u64, blocks: u32) -> [u32; 8]
-    requires { ⌜ (at + 64 * n ≤ length (now s)) × (n + blocks ≤ 15) ⌝ }
+    requires { ⌜ (at + blockLen * n ≤ length (now s)) × (n + blocks ≤ lastBlock) ⌝ }
     ensures { λ r. ⌜ r ≡ chained n cv t blocks (drop at (now (s .entry))) ⌝ }
 {
     let mut c = cv;
     for i in 0..n {
         let flag = start_flag(blocks + (i as u32));
         let m = words_at(s, at + BLOCK_LEN * i);
-        compress_in_place(&mut c, m, t, 64, flag);
+        compress_in_place(&mut c, m, t, BLOCK_LEN as u32, flag);
     }
     c
 }
 
 // The chaining value of the whole chunk number `t`, which starts at `at` of `s`.
 fn chunk_value(cv: [u32; 8], s: &[u8], at: usize, t: u64) -> [u32; 8]
-    requires { ⌜ at + 1024 ≤ length (now s) ⌝ }
+    requires { ⌜ at + chunkLen ≤ length (now s) ⌝ }
     ensures { λ r. ⌜ r ≡ chunkValue cv t (drop at (now (s .entry))) ⌝ }
 {
-    let c = chain(cv, s, at, 15, t, 0);
-    compress(c, words_at(s, at + 960), t, 64, CHUNK_END)
+    let c = chain(cv, s, at, LAST_BLOCK, t, 0);
+    let m = words_at(s, at + LAST_BLOCK_START);
+    compress(c, m, t, BLOCK_LEN as u32, CHUNK_END)
 }
 
-// How many whole chunks are taken at once where `left` bytes are left: four if more follows them, or one.
+// How many whole chunks are taken in at once if `left` bytes are left: four if more input follows them, or one.
 fn at_once(left: usize) -> usize
-    ensures { λ r. ⌜ r ≡ W.atOnce left ⌝ }
+    ensures { λ r. ⌜ r ≡ atOnce left ⌝ }
 {
     if FOUR_CHUNKS < left { 4 } else { 1 }
 }
 
 impl Hasher {
     pub fn new() -> Hasher
-        ensures { λ r. ⌜ r ≡ T.start ⌝ }
+        ensures { λ r. ⌜ r ≡ start ⌝ }
     {
         Hasher {
-            cv: iv(),
-            block: [0u8; 64],
-            len: 0,
-            blocks: 0,
-            stack: Stack {
-                values: [Value { words: [0u32; 8] }; 8],
-                waiting: 0,
-            },
-            chunks: 0,
-        }
-    }
-
-    // The number of the current chunk, as the compression takes it.
-    fn counter(self) -> u64
-        ensures { λ r. ⌜ r ≡ self .chunks ⌝ }
-    {
-        self.chunks
-    }
-
-    // The node of the current chunk, `block` being its last block, of `len` bytes.
-    fn node(self, block: [u32; 16], len: u32) -> Node
-        ensures { λ r. ⌜ (r ≡ T.nodeWith self block len) × (r .flags < 8) ⌝ }
-    {
-        let cv = self.cv;
-        Node {
-            cv: cv,
-            block: block,
-            counter: self.counter(),
-            len: len,
-            flags: start_flag(self.blocks) + CHUNK_END,
-        }
-    }
-
-    // The current chunk is finished, `value` being its chaining value.
-    fn chunk_done(self, value: [u32; 8]) -> Hasher
-        ensures { λ r. ⌜ r ≡ T.chunkDone self value ⌝ }
-    {
-        let stack = self.stack;
-        let before = self.chunks;
-        let chunks = counted(before);
-        let joins = u64::trailing_zeros(chunks);
-        let pushed = stack.push(joins, value);
-        Hasher {
-            cv: iv(),
-            block: [0u8; 64],
-            len: 0,
-            blocks: 0,
-            stack: pushed,
-            chunks: chunks,
-        }
-    }
-
-    // The block belongs to the current chunk, which more input follows.
-    fn advance(self, block: [u32; 16]) -> Hasher
-        ensures { λ r. ⌜ r ≡ T.advanced self block ⌝ }
-    {
-        if self.blocks < 15 {
-            let stack = self.stack;
-            let cv = self.cv;
-            let next = compress(cv, block, self.counter(), 64, start_flag(self.blocks));
-            return Hasher {
-                cv: next,
-                block: [0u8; 64],
+            chaining_value: iv(),
+            block: [0u8; BLOCK_LEN],
+            block_len: 0,
+            blocks_compressed: 0,
+            cv_stack: CvStack {
+                values: [ChainingValue { words: [0u32; 8] }; LEVELS],
                 len: 0,
-                blocks: self.blocks + 1,
-                stack: stack,
-                chunks: self.chunks,
+            },
+            chunk_counter: 0,
+        }
+    }
+
+    // The number of the current chunk, as wide as the compression takes it.
+    fn counter(self) -> u64
+        ensures { λ r. ⌜ r ≡ self .«chunk_counter» ⌝ }
+    {
+        self.chunk_counter
+    }
+
+    // The output of the current chunk, with this last block, of `block_len` bytes.
+    fn output(self, block_words: [u32; 16], block_len: u32) -> Output
+        ensures { λ r. ⌜ (r ≡ outputWith self «block_words» «block_len») × (r .flags < rootFlag) ⌝ }
+    {
+        let cv = self.chaining_value;
+        Output {
+            input_chaining_value: cv,
+            block_words: block_words,
+            counter: self.counter(),
+            block_len: block_len,
+            flags: start_flag(self.blocks_compressed) + CHUNK_END,
+        }
+    }
+
+    // The current chunk is finished and has the chaining value `cv`.
+    fn chunk_done(self, cv: [u32; 8]) -> Hasher
+        ensures { λ r. ⌜ r ≡ chunkDone self cv ⌝ }
+    {
+        let stack = self.cv_stack;
+        let before = self.chunk_counter;
+        let chunks = counter_after(before, 1);
+        let joins = u64::trailing_zeros(chunks);
+        let pushed = stack.push(joins, cv);
+        Hasher {
+            chaining_value: iv(),
+            block: [0u8; BLOCK_LEN],
+            block_len: 0,
+            blocks_compressed: 0,
+            cv_stack: pushed,
+            chunk_counter: chunks,
+        }
+    }
+
+    // The block belongs to the current chunk, and more input follows it.
+    fn advance(self, block_words: [u32; 16]) -> Hasher
+        ensures { λ r. ⌜ r ≡ advanced self «block_words» ⌝ }
+    {
+        if self.blocks_compressed < LAST_BLOCK as u32 {
+            let stack = self.cv_stack;
+            let cv = self.chaining_value;
+            let flag = start_flag(self.blocks_compressed);
+            let next = compress(cv, block_words, self.counter(), BLOCK_LEN as u32, flag);
+            return Hasher {
+                chaining_value: next,
+                block: [0u8; BLOCK_LEN],
+                block_len: 0,
+                blocks_compressed: self.blocks_compressed + 1,
+                cv_stack: stack,
+                chunk_counter: self.chunk_counter,
             };
         }
-        let last = self.node(block, 64);
-        self.chunk_done(last.value())
+        let last = self.output(block_words, BLOCK_LEN as u32);
+        self.chunk_done(last.chaining_value())
     }
 
-    // Four whole chunks of `s` from `at` on, side by side.
+    // Takes in four whole chunks of `s` from `at` on, hashed side by side.
     fn take_chunks(self, s: &[u8], at: usize) -> Hasher
-        requires { ⌜ at + 4096 ≤ length (now s) ⌝ }
-        ensures { λ r. ⌜ r ≡ W.chunksDone 4 self (drop at (now (s .entry))) ⌝ }
+        requires { ⌜ at + 4 * chunkLen ≤ length (now s) ⌝ }
+        ensures { λ r. ⌜ r ≡ chunksDone 4 self (drop at (now (s .entry))) ⌝ }
     {
-        let cv = self.cv;
-        let values = chunks4(cv, s, at, self.counter());
+        let cv = self.chaining_value;
+        let values = chunks4(cv, s, at, self.chunk_counter);
         let mut h = self;
         for i in 0..4usize {
             let value = values[i];
@@ -298,20 +299,20 @@ impl Hasher {
         h
     }
 
-    // A whole chunk of `s` from `at` on.
+    // Takes in a whole chunk of `s` from `at` on.
     fn take_chunk(self, s: &[u8], at: usize) -> Hasher
-        requires { ⌜ at + 1024 ≤ length (now s) ⌝ }
-        ensures { λ r. ⌜ r ≡ W.chunksDone 1 self (drop at (now (s .entry))) ⌝ }
+        requires { ⌜ at + chunkLen ≤ length (now s) ⌝ }
+        ensures { λ r. ⌜ r ≡ chunksDone 1 self (drop at (now (s .entry))) ⌝ }
     {
-        let cv = self.cv;
+        let cv = self.chaining_value;
         let value = chunk_value(cv, s, at, self.counter());
         self.chunk_done(value)
     }
 
-    // Whole chunks of `s` from `at` on, as many as `at_once` says.
+    // Takes in as many whole chunks of `s` from `at` on as `at_once` says.
     fn take_whole(self, s: &[u8], at: usize) -> Hasher
-        requires { ⌜ at + 1024 ≤ length (now s) ⌝ }
-        ensures { λ r. ⌜ r ≡ W.chunksDone (W.atOnce (length (now (s .entry)) - at)) self (drop at (now (s .entry))) ⌝ }
+        requires { ⌜ at + chunkLen ≤ length (now s) ⌝ }
+        ensures { λ r. ⌜ r ≡ chunksDone (atOnce (length (now (s .entry)) - at)) self (drop at (now (s .entry))) ⌝ }
     {
         if FOUR_CHUNKS < s.len() - at {
             return self.take_chunks(s, at);
@@ -319,17 +320,17 @@ impl Hasher {
         self.take_chunk(s, at)
     }
 
-    // The state fed with all bytes of `s`, however many it has taken in. A turn takes in the full block, whole chunks, whole blocks, or
-    // what the block has room for. The last two alter the state in place, so that the values that wait are not copied for them.
+    // The state fed with all bytes of `s`, however many it has taken in. Each turn takes in the full block, whole chunks, whole blocks, or as
+    // many bytes as the block has room for. The last two alter the state in place, so that the values that wait are not copied.
     fn feed(self, s: &[u8]) -> Hasher
-        ensures { λ r. ⌜ r ≡ T.fedFreely self (now (s .entry)) ⌝ }
+        ensures { λ r. ⌜ r ≡ fedFreely self (now (s .entry)) ⌝ }
     {
         let mut h = self;
         let mut at = 0;
         while at < s.len() {
             let left = s.len() - at;
-            let len = h.len as usize;
-            let blocks = h.blocks;
+            let len = h.block_len as usize;
+            let blocks = h.blocks_compressed;
             let mut bytes = h.block;
             if BLOCK_LEN <= len {
                 let next = h.advance(words_of(bytes));
@@ -338,81 +339,80 @@ impl Hasher {
                 let next = h.take_whole(s, at);
                 h = next;
                 at += CHUNK_LEN * at_once(left);
-            } else if len == 0 && blocks < 15 && BLOCK_LEN < left {
-                let n = least(15 - (blocks as usize), (left - 1) / BLOCK_LEN);
-                let cv = h.cv;
+            } else if len == 0 && blocks < LAST_BLOCK as u32 && BLOCK_LEN < left {
+                let n = least(LAST_BLOCK - (blocks as usize), (left - 1) / BLOCK_LEN);
+                let cv = h.chaining_value;
                 let t = h.counter();
                 let next = chain(cv, s, at, n, t, blocks);
-                h.cv = next;
-                h.block = [0u8; 64];
-                h.blocks = blocks + (n as u32);
+                h.chaining_value = next;
+                h.block = [0u8; BLOCK_LEN];
+                h.blocks_compressed = blocks + (n as u32);
                 at += BLOCK_LEN * n;
             } else {
                 let n = least(BLOCK_LEN - len, left);
                 copy(&mut bytes, len, &s[at..at + n]);
                 h.block = bytes;
-                h.len = (len + n) as u32;
+                h.block_len = (len + n) as u32;
                 at += n;
             }
         }
         h
     }
 
-    // How many bytes the state has taken in. One that no feeding made may say more than `CAPACITY`; that counts as `CAPACITY`.
+    // How many bytes the state has taken in. A state that feeding cannot produce may hold a larger number, which counts as `CAPACITY`.
     pub fn taken(self) -> usize
-        ensures { λ r. ⌜ r ≡ min (T.fill self) T.capacity ⌝ }
+        ensures { λ r. ⌜ r ≡ min (fill self) capacity ⌝ }
     {
-        if CHUNKS <= self.chunks {
+        if CHUNKS <= self.chunk_counter {
             return CAPACITY;
         }
-        let chunks = self.chunks as usize;
-        let blocks = least(self.blocks as usize, 15);
-        let len = least(self.len as usize, BLOCK_LEN);
+        let chunks = self.chunk_counter as usize;
+        let blocks = least(self.blocks_compressed as usize, LAST_BLOCK);
+        let len = least(self.block_len as usize, BLOCK_LEN);
         CHUNK_LEN * chunks + BLOCK_LEN * blocks + len
     }
 
-    // The state fed with the bytes of `s`, as many as it has room for. In all a state takes in at most `CAPACITY` bytes; what comes behind
-    // them is dropped.
+    // The state fed with as many bytes of `s` as it has room for. In all a state takes in at most `CAPACITY` bytes; the rest is dropped.
     pub fn update(self, s: &[u8]) -> Hasher
-        ensures { λ r. ⌜ r ≡ T.fed self (now (s .entry)) ⌝ }
+        ensures { λ r. ⌜ r ≡ fed self (now (s .entry)) ⌝ }
     {
         let n = least(CAPACITY - self.taken(), s.len());
         self.feed(&s[..n])
     }
 
-    // The root's eight words. They are BLAKE3's digest of all that was fed where that was at most `CAPACITY` bytes; `blake3::finish` refuses
-    // where it may have been more.
+    // The root's eight words: BLAKE3's digest of all that was fed, if that was at most `CAPACITY` bytes. `blake3::finish` refuses a state that
+    // may have been fed more.
     pub fn finish(self) -> [u32; 8]
-        ensures { λ r. ⌜ r ≡ T.finished self ⌝ }
+        ensures { λ r. ⌜ r ≡ finished self ⌝ }
     {
         let bytes = self.block;
-        let last = self.node(words_of(bytes), self.len);
-        let stack = self.stack;
+        let last = self.output(words_of(bytes), self.block_len);
+        let stack = self.cv_stack;
         let top = stack.root(last);
-        top.root()
+        top.root_words()
     }
 }
 
-// How many blocks of a chunk of `len` bytes stand before its last.
+// How many blocks a chunk of `len` bytes has before its last.
 fn before_last(len: usize) -> usize
-    ensures { λ r. ⌜ r ≡ (len - 1) / 64 ⌝ }
+    ensures { λ r. ⌜ r ≡ (len - 1) / blockLen ⌝ }
 {
     if len == 0 { 0 } else { (len - 1) / BLOCK_LEN }
 }
 
-// The bytes of `s` from `at` on, in a block with zeros behind them.
-fn rest_of(s: &[u8], at: usize) -> [u8; 64]
-    requires { ⌜ (at ≤ length (now s)) × (length (now s) ≤ at + 64) ⌝ }
-    ensures { λ r. ⌜ r ≡ T.filled (length (now (s .entry)) - at) (drop at (now (s .entry))) ⌝ }
+// The bytes of `s` from `at` on, in a block filled up with zeros.
+fn rest_of(s: &[u8], at: usize) -> [u8; BLOCK_LEN]
+    requires { ⌜ (at ≤ length (now s)) × (length (now s) ≤ at + blockLen) ⌝ }
+    ensures { λ r. ⌜ r ≡ filled (length (now (s .entry)) - at) (drop at (now (s .entry))) ⌝ }
 {
-    let mut block = [0u8; 64];
+    let mut block = [0u8; BLOCK_LEN];
     copy(&mut block, 0, &s[at..]);
     block
 }
 
 // The words of the chunk's last block, which starts at `at`.
 fn last_words(s: &[u8], at: usize) -> [u32; 16]
-    requires { ⌜ (at ≤ length (now s)) × (length (now s) ≤ at + 64) ⌝ }
+    requires { ⌜ (at ≤ length (now s)) × (length (now s) ≤ at + blockLen) ⌝ }
     ensures { λ r. ⌜ r ≡ words (drop at (now (s .entry))) ⌝ }
 {
     if s.len() - at == BLOCK_LEN {
@@ -421,26 +421,26 @@ fn last_words(s: &[u8], at: usize) -> [u32; 16]
     words_of(rest_of(s, at))
 }
 
-// The eight words of the digest of at most one chunk. It has no state to keep.
+// The digest of at most one chunk, as eight words. It needs no state.
 pub fn one_chunk(s: &[u8]) -> [u32; 8]
-    requires { ⌜ length (now s) ≤ 1024 ⌝ }
-    ensures { λ r. ⌜ r ≡ B.hashWords (now (s .entry)) ⌝ }
+    requires { ⌜ length (now s) ≤ chunkLen ⌝ }
+    ensures { λ r. ⌜ r ≡ hashWords (now (s .entry)) ⌝ }
 {
     let n = before_last(s.len());
     let at = BLOCK_LEN * n;
     let cv = chain(iv(), s, 0, n, 0, 0);
-    let block = last_words(s, at);
-    let last = Node {
-        cv: cv,
-        block: block,
+    let block_words = last_words(s, at);
+    let last = Output {
+        input_chaining_value: cv,
+        block_words: block_words,
         counter: 0,
-        len: (s.len() - at) as u32,
+        block_len: (s.len() - at) as u32,
         flags: start_flag(n as u32) + CHUNK_END,
     };
-    last.root()
+    last.root_words()
 }
 
-// The claims of `specs/Laws.antt` hold. There is no code: the contract makes the check prove them.
+// The claims of `specs/Laws.antt` hold. Empty body: the contract makes the checker prove them.
 pub fn laws_hold()
     ensures { λ _. ⌜ Laws ⌝ }
 {}

@@ -1,4 +1,4 @@
--- An image of zeros, filled from the front: what was copied to it, and zeros behind that.
+-- An image of zeros, filled from the front: what was copied to it, then zeros.
 use Prim.Native.Nat.{ℕ, suc, _+_, _-_, _≤_}
 use native.Mathlib.Omega.{arith}
 use mathlib.Core.Path.{_≡_, refl, sym, ap, _∙_}
@@ -18,7 +18,7 @@ zeros n = replicate n 0
 abbrev pub image : List ℕ → ℕ → List ℕ
 image filled n = filled ++ zeros n
 
--- a part copied to the place `at`, z zeros behind what is filled
+-- a part copied to the place `at`, z zeros after what is filled
 pub copied : (filled xs : List ℕ) (at z n r : ℕ) {before after : List ℕ} → at ≡ length filled + z → n ≡ z + (length xs + r) → before ≡ image filled n
     → after ≡ take at before ++ xs ++ drop (at + length xs) before → after ≡ image (filled ++ zeros z ++ xs) r
 copied filled xs at z n r ea en eb ec =
@@ -32,12 +32,12 @@ copied filled xs at z n r ea en eb ec =
     (sym (drop-drop (length xs) at ((filled ++ zeros z) ++ zeros (length xs + r)))
     ∙ ap (drop (length xs)) (drop-at (filled ++ zeros z) (zeros (length xs + r)) at l) ∙ drop-replicate {A = ℕ} (length xs) (length xs + r) 0 ∙ ap zeros m))
 
--- a byte put right behind what is filled
+-- a byte written right after what is filled
 pub byte-put : (filled : List ℕ) (b at n : ℕ) {before : List ℕ} → at ≡ length filled → before ≡ image filled (suc n) → set before at b ≡ image (filled ++ (b ∷ [])) n
 byte-put filled b at n ea eb =
     ap (λ (x : List ℕ). set x at b) eb ∙ set-at filled 0 (zeros n) b at (sym ea) ∙ sym (append-snoc filled b (zeros n))
 
--- the image with each part copied in its turn
+-- the image with each part copied in turn
 pub masked-by : (f : List ℕ) {a b c d : List ℕ} {w : ℕ} → 256 ≤ length f
     → a ≡ take 0 (zeros 256) ++ part 0 7 f ++ drop (0 + length (part 0 7 f)) (zeros 256)
     → w ≡ withoutDebugBit (getD f 7 0)

@@ -42,7 +42,7 @@ runtimeIn r =
       memoryImageBytes = r .«memory_image_bytes»;
     }
 
--- the bytes of the reserved numbers, one behind the other
+-- the bytes of the reserved numbers, one after the other
 abbrev pub reservedBytes : Reserved → List ℕ
 reservedBytes r = bytesLe 8 (r .0) ++ bytesLe 8 (r .1) ++ bytesLe 8 (r .2) ++ bytesLe 8 (r .3) ++ bytesLe 4 (r .4) ++ bytesLe 2 (r .5)
 

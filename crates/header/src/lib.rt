@@ -4,7 +4,7 @@ use base::digest::digest_at;
 use base::error::ContainerError;
 pub use base::section::HEADER_SIZE;
 use base::section::Section;
-use reading::copy;
+use lent::copy;
 use reading::u8_at;
 use reading::u16_at;
 use reading::u32_at;
@@ -12,18 +12,18 @@ use reading::u64_at;
 ghost use mathlib.Core.Path.{_≡_};
 ghost use Prim.Native.Nat.{_+_, _≤_};
 ghost use lib.ListN.{length};
-ghost use Rattle.format.specs.Parts.{part};
+ghost use Rattle.format.specs.Parts.{headerSize, part};
 ghost use Rattle.format.specs.Header.{placeAt, directoryOf, runtimeOf, headerOf, typesFlag, withoutDebugBit};
 ghost use Rattle.format.specs.Integrity.{maskedHeader};
 ghost use Rattle.base.specs.Section.{placeIn};
 ghost use Rattle.header.specs.Answers.{directoryIn, runtimeIn, reservedBytes, headerFrom};
 
-// "IPLC", its last letter first.
+// "IPLC", last letter first.
 pub const MAGIC: u32 = 0x49504C43;
 
 pub const FORMAT_VERSION: u16 = 4;
 
-// The variables 0 and 1 are the up time, which the machine writes before each scan.
+// Variables 0 and 1 are the up time, which the machine writes before each scan.
 pub const FLAG_HAS_SYSTEM_UPTIME: u8 = 0x01;
 
 // There is a debug section.
@@ -35,17 +35,17 @@ pub const FLAG_HAS_TYPE_SECTION: u8 = 0x04;
 // The place of `flags`.
 pub const FLAGS_OFFSET: usize = 7;
 
-// The place of `content_hash`, and the place behind it.
+// Where `content_hash` starts and ends.
 pub const CONTENT_HASH_START: usize = 8;
 
 pub const CONTENT_HASH_END: usize = 40;
 
-// The place of `debug_hash`, and the place behind it.
+// Where `debug_hash` starts and ends.
 pub const DEBUG_HASH_START: usize = 72;
 
 pub const DEBUG_HASH_END: usize = 104;
 
-// The place of the section directory, and the place behind it.
+// Where the section directory starts and ends.
 pub const SECTION_DIRECTORY_START: usize = 136;
 
 pub const SECTION_DIRECTORY_END: usize = 192;
@@ -114,7 +114,7 @@ fn section_at(file: &[u8], at: usize) -> Section
 }
 
 fn directory_at(file: &[u8]) -> SectionDirectory
-    requires { ⌜ 256 ≤ length (now file) ⌝ }
+    requires { ⌜ headerSize ≤ length (now file) ⌝ }
     ensures { λ r. ⌜ directoryIn r ≡ directoryOf (now (file .entry)) ⌝ }
 {
     SectionDirectory {
@@ -129,7 +129,7 @@ fn directory_at(file: &[u8]) -> SectionDirectory
 }
 
 fn runtime_at(file: &[u8]) -> RuntimeParameters
-    requires { ⌜ 256 ≤ length (now file) ⌝ }
+    requires { ⌜ headerSize ≤ length (now file) ⌝ }
     ensures { λ r. ⌜ runtimeIn r ≡ runtimeOf (now (file .entry)) ⌝ }
 {
     RuntimeParameters {
@@ -148,7 +148,7 @@ fn runtime_at(file: &[u8]) -> RuntimeParameters
 }
 
 fn reserved_at(file: &[u8]) -> Reserved
-    requires { ⌜ 256 ≤ length (now file) ⌝ }
+    requires { ⌜ headerSize ≤ length (now file) ⌝ }
     ensures { λ r. ⌜ reservedBytes r ≡ part 218 38 (now (file .entry)) ⌝ }
 {
     Reserved(
@@ -191,26 +191,26 @@ pub fn from_bytes(file: &[u8]) -> HeaderAnswer
     })
 }
 
-// Whether the flags say that there is a type section.
+// Whether the flags announce a type section.
 pub fn has_types(flags: u8) -> bool
     ensures { λ r. ⌜ r ≡ typesFlag flags ⌝ }
 {
     flags / FLAG_HAS_TYPE_SECTION % 2 == 1
 }
 
-// The flags with the bit of the debug section cleared.
+// The flags with the debug bit cleared.
 pub fn without_debug_bit(flags: u8) -> u8
     ensures { λ r. ⌜ r ≡ withoutDebugBit flags ⌝ }
 {
     flags - FLAG_HAS_DEBUG_SECTION * (flags / FLAG_HAS_DEBUG_SECTION % 2)
 }
 
-// The header as the content hash covers it: without the debug bit, and zero where the two hashes and the directory stand.
-pub fn masked(header: &[u8; 256]) -> [u8; 256]
+// The header as the content hash covers it: the debug bit cleared, both hashes and the directory zeroed.
+pub fn masked(header: &[u8; HEADER_SIZE]) -> [u8; HEADER_SIZE]
     ensures { λ r. ⌜ r ≡ maskedHeader (now (header .entry)) ⌝ }
 {
     let bytes = &header[..];
-    let mut image = [0u8; 256];
+    let mut image = [0u8; HEADER_SIZE];
     copy(&mut image, 0, &bytes[0..FLAGS_OFFSET]);
     image[FLAGS_OFFSET] = without_debug_bit(bytes[FLAGS_OFFSET]);
     copy(

@@ -1,12 +1,13 @@
-// The content hash over the masked header and four sections, and whether a debug hash fits.
+// The content hash over the masked header and four sections, and whether a debug hash fits its section.
 ghost use mathlib.Core.Path.{_≡_};
 ghost use Prim.Native.Nat.{_≤_};
 ghost use lib.ListN.{length, take};
 ghost use Rattle.base.specs.Digest.{digestBytes};
 ghost use Rattle.base.specs.Section.{placeIn, bytesOf, checkedFrom};
 ghost use Rattle.blake3.specs.Blake3.{hashFrom};
+ghost use Rattle.format.specs.Parts.{headerSize};
 ghost use Rattle.header.specs.Answers.{directoryIn, headerIn};
-ghost use Rattle.integrity.specs.Hashes.{contentHash, contentHashOf, contentChecked, debugFits, isHashable, allHashable};
+ghost use Rattle.integrity.specs.Hashes.{computedContentHash, contentHashOf, contentChecked, debugFits, isHashable, allHashable};
 ghost use Rattle.integrity.specs.Laws.{Laws};
 use base::digest::Digest;
 pub use base::digest::HASH_LEN;
@@ -26,9 +27,9 @@ use hasher::Hasher;
 use header::FileHeader;
 use header::SectionDirectory;
 use header::masked;
-use reading::copy;
+use lent::copy;
 
-// Whether a section can be hashed: it lies in the file behind the header, or its size is 0, wherever it is said to be.
+// Whether a section can be hashed: it lies in the file behind the header, or its size is 0, at any offset.
 fn is_hashable(file: &[u8], section: Section) -> bool
     ensures { λ r. ⌜ r ≡ isHashable (now (file .entry)) (placeIn section) ⌝ }
 {
@@ -54,7 +55,7 @@ fn all_hashable(file: &[u8], sections: SectionDirectory) -> bool
     is_hashable(file, sections.code_section)
 }
 
-// A section's part of the file; none of it where it does not lie in the file.
+// A section's part of the file; empty if it does not lie in the file.
 fn bytes_of(file: &[u8], section: Section) -> &[u8]
     ensures { λ r. ⌜ now r ≡ bytesOf (now (file .entry)) (placeIn section) ⌝ }
 {
@@ -65,20 +66,20 @@ fn bytes_of(file: &[u8], section: Section) -> &[u8]
     part.of(file)
 }
 
-// The header's bytes of a file that has them.
-fn header_of(file: &[u8]) -> [u8; 256]
-    requires { ⌜ 256 ≤ length (now file) ⌝ }
-    ensures { λ r. ⌜ r ≡ take 256 (now (file .entry)) ⌝ }
+// The header's bytes, of a file that is long enough.
+fn header_of(file: &[u8]) -> [u8; HEADER_SIZE]
+    requires { ⌜ headerSize ≤ length (now file) ⌝ }
+    ensures { λ r. ⌜ r ≡ take headerSize (now (file .entry)) ⌝ }
 {
-    let mut header = [0u8; 256];
+    let mut header = [0u8; HEADER_SIZE];
     copy(&mut header, 0, &file[0..HEADER_SIZE]);
     header
 }
 
-// The content hash of five parts: a header, which is masked, and the four sections, one behind the other; 10 where they are over the hash's limit
-// together. Each feeding is lent the state.
+// The content hash over five parts: a header, which is masked, then the four sections; 10 if together they are over the hash's limit. The state is
+// lent to each feeding.
 pub fn content_hash_of(
-    header: &[u8; 256],
+    header: &[u8; HEADER_SIZE],
     task_table: &[u8],
     type_section: &[u8],
     const_section: &[u8],
@@ -94,9 +95,9 @@ pub fn content_hash_of(
     finish(fed_with(state, code_section))
 }
 
-// The content hash of a file, by the places that `sections` gives, which are not trusted: a refusal, or the digest.
+// The content hash of a file, with its sections at the places in `sections`, which are not trusted.
 pub fn content_hash(file: &[u8], sections: SectionDirectory) -> HashAnswer
-    ensures { λ r. ⌜ hashFrom r ≡ contentHash (now (file .entry)) (directoryIn sections) ⌝ }
+    ensures { λ r. ⌜ hashFrom r ≡ computedContentHash (now (file .entry)) (directoryIn sections) ⌝ }
 {
     if file.len() > FILE_LIMIT {
         return HashAnswer::Refused(ContainerError::TooLong);
@@ -117,7 +118,7 @@ pub fn content_hash(file: &[u8], sections: SectionDirectory) -> HashAnswer
     )
 }
 
-// Whether the header's content hash is the file's; an all-zero one is not checked.
+// Whether the header's content hash is that of the file; an all-zero hash is not checked.
 pub fn check_content_hash(file: &[u8], header: FileHeader) -> Checked
     ensures { λ r. ⌜ checkedFrom r ≡ contentChecked (now (file .entry)) (headerIn header) ⌝ }
 {
@@ -135,7 +136,7 @@ pub fn check_content_hash(file: &[u8], header: FileHeader) -> Checked
     }
 }
 
-// Whether a debug hash fits its section; zero fits anything.
+// Whether a debug hash fits its section; an all-zero hash fits any section.
 pub fn debug_hash_matches(debug_hash: Digest, section: &[u8]) -> bool
     ensures { λ r. ⌜ r ≡ debugFits (digestBytes «debug_hash») (now (section .entry)) ⌝ }
 {
@@ -148,7 +149,7 @@ pub fn debug_hash_matches(debug_hash: Digest, section: &[u8]) -> bool
     }
 }
 
-// The claims of `specs/Laws.antt` hold. There is no code: the contract makes the check prove them.
+// The claims of `specs/Laws.antt` hold. Empty body: the contract makes the checker prove them.
 pub fn laws_hold()
     ensures { λ _. ⌜ Laws ⌝ }
 {}

@@ -19,7 +19,7 @@ use Rattle.format.specs.Faults.{noLine, unsortedMap}
 use Rattle.format.specs.Lines.{inOrder, sorted, candidate, better, bestOf, lineFor}
 use Rattle.format.proofs.Answers.{same-found}
 use Rattle.line_map.specs.Choice.{isAbove, choiceOf}
-use Rattle.line_map.specs.Lookups.{inLines, sortedIn, choiceIn, sourceLineIn}
+use Rattle.line_map.specs.Lookups.{lineMapEntrySize, inLines, sortedIn, choiceIn, sourceLineIn}
 use Rattle.line_map.proofs.Entries.{lines-read, in-none, in-any, in-more}
 
 -- Over the map's bytes
@@ -29,28 +29,28 @@ abbrev pub choiceBehind : ℕ → ℕ → Option Line → List ℕ → ℕ → �
 choiceBehind f q best s p n = inLines s p n (λ es. found (choiceOf f q best es))
 
 module _ (s : List ℕ) (at n f q : ℕ) where
-  pub choice-start : choiceBehind f q none s (at + 10 * 0) (n - 0) ≡ choiceIn s at n f q
+  pub choice-start : choiceBehind f q none s (at + lineMapEntrySize * 0) (n - 0) ≡ choiceIn s at n f q
   choice-start = rw (sub-zero n, add-zero at)
 
   -- the loop stands before the entry of index i
-  module _ (i : ℕ) (best : Option Line) (inv : choiceBehind f q best s (at + 10 * i) (n - i) ≡ choiceIn s at n f q) where
+  module _ (i : ℕ) (best : Option Line) (inv : choiceBehind f q best s (at + lineMapEntrySize * i) (n - i) ≡ choiceIn s at n f q) where
     pub choice-end : i ≡ n → found best ≡ choiceIn s at n f q
-    choice-end h = sym (in-none s (at + 10 * i) (n - i) (λ es. found (choiceOf f q best es)) (omega arith)) ∙ inv
+    choice-end h = sym (in-none s (at + lineMapEntrySize * i) (n - i) (λ es. found (choiceOf f q best es)) (omega arith)) ∙ inv
 
-    module _ (e : Line) (h : i < n) (r : line (drop (at + 10 * i) s) ≡ got e (drop (at + 10 * i + 10) s)) where
+    module _ (e : Line) (h : i < n) (r : line (drop (at + lineMapEntrySize * i) s) ≡ got e (drop (at + lineMapEntrySize * i + lineMapEntrySize) s)) where
       step : (rest : List Line → Got (Option Line)) → ((es : List Line) → found (choiceOf f q best (e ∷ es)) ≡ rest es)
-          → inLines s (at + 10 * (i + 1)) (n - (i + 1)) rest ≡ choiceIn s at n f q
+          → inLines s (at + lineMapEntrySize * (i + 1)) (n - (i + 1)) rest ≡ choiceIn s at n f q
       step rest same =
-          sym (in-more s (at + 10 * i) (n - i) (λ es. found (choiceOf f q best es)) (n - (i + 1)) (at + 10 * (i + 1)) e rest (omega arith) (omega arith) r same)
+          sym (in-more s (at + lineMapEntrySize * i) (n - i) (λ es. found (choiceOf f q best es)) (n - (i + 1)) (at + lineMapEntrySize * (i + 1)) e rest (omega arith) (omega arith) r same)
           ∙ inv
 
-      pub choice-above : 10 * n ≤ length s - at → isAbove f q e ≡ true → found best ≡ choiceIn s at n f q
+      pub choice-above : lineMapEntrySize * n ≤ length s - at → isAbove f q e ≡ true → found best ≡ choiceIn s at n f q
       choice-above l o =
-          sym (in-any s (at + 10 * (i + 1)) (n - (i + 1)) (λ es. found best) (found best) (omega arith) (λ es. refl))
+          sym (in-any s (at + lineMapEntrySize * (i + 1)) (n - (i + 1)) (λ es. found best) (found best) (omega arith) (λ es. refl))
           ∙ step (λ es. found best) (λ es. rw o)
 
       pub choice-more : isAbove f q e ≡ false → (later : Option Line) → later ≡ cond (eqb (e .function) f) (better best e) best
-          → choiceBehind f q later s (at + 10 * (i + 1)) (n - (i + 1)) ≡ choiceIn s at n f q
+          → choiceBehind f q later s (at + lineMapEntrySize * (i + 1)) (n - (i + 1)) ≡ choiceIn s at n f q
       choice-more o later z = step (λ es. found (choiceOf f q later es)) (λ es. rw (o, z))
 
 -- On a sorted map
@@ -130,7 +130,7 @@ module _ (f q : ℕ) where
 
 -- The lookup, by what the order test and the choice answered
 
-module _ (s : List ℕ) (at n f q : ℕ) (h : 10 * n ≤ length s - at) where
+module _ (s : List ℕ) (at n f q : ℕ) (h : lineMapEntrySize * n ≤ length s - at) where
   pub lookup-unsorted : {t : Bool} → found t ≡ sortedIn s at n → t ≡ false → refused unsortedMap ≡ sourceLineIn s at n f q
   unfolding lineFor
   lookup-unsorted z u =

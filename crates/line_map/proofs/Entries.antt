@@ -19,11 +19,11 @@ use Rattle.reading.proofs.Width.{Fixed, fixed-give, fixed-bind, fixed-number, f
 use Rattle.reading.proofs.Tables.{at-width, at-picked, index-out}
 use Rattle.format.specs.Faults.{noEntry}
 use Rattle.format.specs.Debug.{Line, line}
-use Rattle.line_map.specs.Lookups.{linesFit, inLines, lineOfMap}
+use Rattle.line_map.specs.Lookups.{lineMapEntrySize, linesFit, inLines, lineOfMap}
 
 -- an entry of the five numbers that stand there
-pub line-at : (s : List ℕ) (at f o i l c : ℕ) → at + 10 ≤ length s → f ≡ leAt 2 s at → o ≡ leAt 2 s (at + 2) → i ≡ leAt 2 s (at + 4) → l ≡ leAt 2 s (at + 6) → c ≡ leAt 2 s (at + 8)
-    → line (drop at s) ≡ got (record { function = f; offset = o; file = i; line = l; column = c }) (drop (at + 10) s)
+pub line-at : (s : List ℕ) (at f o i l c : ℕ) → at + lineMapEntrySize ≤ length s → f ≡ leAt 2 s at → o ≡ leAt 2 s (at + 2) → i ≡ leAt 2 s (at + 4) → l ≡ leAt 2 s (at + 6) → c ≡ leAt 2 s (at + 8)
+    → line (drop at s) ≡ got (record { function = f; offset = o; file = i; line = l; column = c }) (drop (at + lineMapEntrySize) s)
 unfolding line
 line-at s at f o i l c h e₁ e₂ e₃ e₄ e₅ =
     rw (
@@ -31,7 +31,7 @@ line-at s at f o i l c h e₁ e₂ e₃ e₄ e₅ =
       number-at 2 s (at + 2) (at + 4) (omega arith) (omega arith),
       number-at 2 s (at + 4) (at + 6) (omega arith) (omega arith),
       number-at 2 s (at + 6) (at + 8) (omega arith) (omega arith),
-      number-at 2 s (at + 8) (at + 10) (omega arith) h,
+      number-at 2 s (at + 8) (at + lineMapEntrySize) (omega arith) h,
       e₁,
       e₂,
       e₃,
@@ -39,7 +39,7 @@ line-at s at f o i l c h e₁ e₂ e₃ e₄ e₅ =
       e₅,
     )
 
-pub line-fixed : Fixed 10 line
+pub line-fixed : Fixed lineMapEntrySize line
 unfolding line
 line-fixed =
     fixed-bind (fixed-number 2) λ f.
@@ -50,17 +50,17 @@ line-fixed =
 
 module _ (s : List ℕ) (at n : ℕ) where
   -- the map, by whether the section holds it
-  pub lines-read : 10 * n ≤ length s - at → (es : List Line) × (many n line (drop at s) ≡ got es (drop (at + 10 * n) s))
+  pub lines-read : lineMapEntrySize * n ≤ length s - at → (es : List Line) × (many n line (drop at s) ≡ got es (drop (at + lineMapEntrySize * n) s))
   lines-read h =
       let d = length-drop at s in
       let k = fixed-many n line-fixed .whole (drop at s) (omega arith) in
-      (k .0, k .1 ∙ ap (got (k .0)) (drop-drop (10 * n) at s))
+      (k .0, k .1 ∙ ap (got (k .0)) (drop-drop (lineMapEntrySize * n) at s))
 
-  pub lines-short : length s - at < 10 * n → many n line (drop at s) ≡ fault shortInput
+  pub lines-short : length s - at < lineMapEntrySize * n → many n line (drop at s) ≡ fault shortInput
   lines-short h = let d = length-drop at s in fixed-many n line-fixed .short (drop at s) (omega arith)
 
   module _ {B : Type 0} (pick : List Line → Got B) where
-    pub in-short : length s - at < 10 * n → refused shortInput ≡ inLines s at n pick
+    pub in-short : length s - at < lineMapEntrySize * n → refused shortInput ≡ inLines s at n pick
     in-short h = rw (lines-short h)
 
     -- no entry is left
@@ -68,11 +68,11 @@ module _ (s : List ℕ) (at n : ℕ) where
     in-none z = rw z
 
     -- the others do not matter
-    pub in-any : (x : Got B) → 10 * n ≤ length s - at → ((es : List Line) → pick es ≡ x) → inLines s at n pick ≡ x
+    pub in-any : (x : Got B) → lineMapEntrySize * n ≤ length s - at → ((es : List Line) → pick es ≡ x) → inLines s at n pick ≡ x
     in-any x h same = let k = lines-read h in rw (k .1) (same (k .0))
 
     -- the first entry, and those behind it: an answer `rest` within these
-    pub in-more : (m to : ℕ) (e : Line) (rest : List Line → Got B) → n ≡ suc m → at + 10 ≡ to → line (drop at s) ≡ got e (drop (at + 10) s)
+    pub in-more : (m to : ℕ) (e : Line) (rest : List Line → Got B) → n ≡ suc m → at + lineMapEntrySize ≡ to → line (drop at s) ≡ got e (drop (at + lineMapEntrySize) s)
         → ((es : List Line) → pick (e ∷ es) ≡ rest es) → inLines s at n pick ≡ inLines s to m rest
     in-more m to e rest z y r same = rw (z, r, y) (go (many m line (drop to s)))
       where
@@ -81,17 +81,17 @@ module _ (s : List ℕ) (at n : ℕ) where
         go (got es behind) = same es
 
   -- the entry at an index
-  module _ (h : 10 * n ≤ length s - at) (k : ℕ) where
+  module _ (h : lineMapEntrySize * n ≤ length s - at) (k : ℕ) where
     pub line-out : n ≤ k → refused noEntry ≡ lineOfMap s at n k
     line-out l =
         let t = lines-read h in
-        rw (t .1) (sym (index-out line k n (drop at s) (t .0) (drop (at + 10 * n) s) noEntry l (t .1)))
+        rw (t .1) (sym (index-out line k n (drop at s) (t .0) (drop (at + lineMapEntrySize * n) s) noEntry l (t .1)))
 
-    pub line-found : (e : Line) → k < n → line (drop (at + 10 * k) s) ≡ got e (drop (at + 10 * k + 10) s) → found e ≡ lineOfMap s at n k
+    pub line-found : (e : Line) → k < n → line (drop (at + lineMapEntrySize * k) s) ≡ got e (drop (at + lineMapEntrySize * k + lineMapEntrySize) s) → found e ≡ lineOfMap s at n k
     line-found e l r =
         let t = lines-read h in
-        let p = at-width line (fixed-width line-fixed) k n (drop at s) (t .0) (drop (at + 10 * n) s) l (t .1) in
-        rw (t .1) (sym (at-picked line p e (drop (at + 10 * k + 10) s) (rw drop-drop r) noEntry))
+        let p = at-width line (fixed-width line-fixed) k n (drop at s) (t .0) (drop (at + lineMapEntrySize * n) s) l (t .1) in
+        rw (t .1) (sym (at-picked line p e (drop (at + lineMapEntrySize * k + lineMapEntrySize) s) (rw drop-drop r) noEntry))
 
 -- the code's test: a place past the section's end, and one within it
 module _ (s : List ℕ) (at n : ℕ) where
@@ -99,19 +99,19 @@ module _ (s : List ℕ) (at n : ℕ) where
   fit-past h = go (decLe n 0)
     where
       go : Dec (n ≤ 0) → eqb n 0 ≡ linesFit s at n
-      go (yes l) = rw (eq-eqb n 0 (omega arith), le-leb (10 * n) (length s - at) (omega arith))
-      go (no l) = rw (ne-eqb n 0 (λ z. omega arith), lt-leb (10 * n) (length s - at) (omega arith))
+      go (yes l) = rw (eq-eqb n 0 (omega arith), le-leb (lineMapEntrySize * n) (length s - at) (omega arith))
+      go (no l) = rw (ne-eqb n 0 (λ z. omega arith), lt-leb (lineMapEntrySize * n) (length s - at) (omega arith))
 
-  pub fit-within : leb n ((length s - at) / 10) ≡ linesFit s at n
-  fit-within = go (decLe (10 * n) (length s - at))
+  pub fit-within : leb n ((length s - at) / lineMapEntrySize) ≡ linesFit s at n
+  fit-within = go (decLe (lineMapEntrySize * n) (length s - at))
     where
-      go : Dec (10 * n ≤ length s - at) → leb n ((length s - at) / 10) ≡ linesFit s at n
-      go (yes l) = rw (le-leb n ((length s - at) / 10) (omega arith), le-leb (10 * n) (length s - at) l)
-      go (no l) = rw (lt-leb n ((length s - at) / 10) (omega arith), lt-leb (10 * n) (length s - at) (omega arith))
+      go : Dec (lineMapEntrySize * n ≤ length s - at) → leb n ((length s - at) / lineMapEntrySize) ≡ linesFit s at n
+      go (yes l) = rw (le-leb n ((length s - at) / lineMapEntrySize) (omega arith), le-leb (lineMapEntrySize * n) (length s - at) l)
+      go (no l) = rw (lt-leb n ((length s - at) / lineMapEntrySize) (omega arith), lt-leb (lineMapEntrySize * n) (length s - at) (omega arith))
 
-  -- what it tells
-  pub fit-told : {r : Bool} → r ≡ linesFit s at n → r ≡ true → 10 * n ≤ length s - at
+  -- what follows from it
+  pub fit-told : {r : Bool} → r ≡ linesFit s at n → r ≡ true → lineMapEntrySize * n ≤ length s - at
   fit-told e t = leb-true _ _ (sym e ∙ t)
 
-  pub short-told : {r : Bool} → r ≡ linesFit s at n → r ≡ false → length s - at < 10 * n
+  pub short-told : {r : Bool} → r ≡ linesFit s at n → r ≡ false → length s - at < lineMapEntrySize * n
   short-told e t = leb-false _ _ (sym e ∙ t)

@@ -11,7 +11,7 @@ use Rattle.format.specs.Lines.{better}
 abbrev pub isAbove : ℕ → ℕ → Line → Bool
 isAbove function query e = ltb function (e .function) || (eqb function (e .function) && ltb query (e .offset))
 
--- the best entry of the asked function up to there
+-- the best entry of the asked function before the first entry above the query
 abbrev pub choiceOf : ℕ → ℕ → Option Line → List Line → Option Line
 choiceOf function query best [] = best
 choiceOf function query best (e ∷ es) =

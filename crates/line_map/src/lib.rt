@@ -9,7 +9,7 @@ ghost use Rattle.format.specs.Debug.{line};
 ghost use Rattle.format.specs.Lines.{inOrder, better};
 ghost use Rattle.line_map.specs.Answers.{lineIn, lineFrom, maybeLine, lineNextFrom};
 ghost use Rattle.line_map.specs.Choice.{isAbove};
-ghost use Rattle.line_map.specs.Lookups.{linesFit, sortedIn, isSorted, choiceIn, sourceLineIn, lineOfMap};
+ghost use Rattle.line_map.specs.Lookups.{lineMapEntrySize, linesFit, sortedIn, isSorted, choiceIn, sourceLineIn, lineOfMap};
 ghost use Rattle.line_map.specs.Laws.{Laws};
 use base::error::ContainerError;
 use base::id_types::FunctionId;
@@ -21,7 +21,7 @@ use reading::u16_at;
 
 pub const LINE_MAP_ENTRY_SIZE: usize = 10;
 
-// An entry of the line map: where in the source the bytecode at an offset of a function comes from.
+// An entry of the line map: the source line and column that a function's bytecode comes from, from an offset on.
 pub struct LineMapEntry {
     pub function_id: FunctionId,
     pub bytecode_offset: u16,
@@ -42,7 +42,7 @@ pub enum LineNext {
     Entry(LineMapEntry, Table),
 }
 
-// An entry, or none.
+// An entry of the map, or none.
 enum MaybeLine {
     None,
     Some(LineMapEntry),
@@ -50,8 +50,8 @@ enum MaybeLine {
 
 // The entry at the place `at`.
 fn entry_at(s: &[u8], at: usize) -> LineMapEntry
-    requires { ⌜ at + 10 ≤ length (now s) ⌝ }
-    ensures { λ r. ⌜ line (drop at (now (s .entry))) ≡ got (lineIn r) (drop (at + 10) (now (s .entry))) ⌝ }
+    requires { ⌜ at + lineMapEntrySize ≤ length (now s) ⌝ }
+    ensures { λ r. ⌜ line (drop at (now (s .entry))) ≡ got (lineIn r) (drop (at + lineMapEntrySize) (now (s .entry))) ⌝ }
 {
     LineMapEntry {
         function_id: FunctionId::new(u16_at(s, at)),
@@ -72,7 +72,7 @@ pub fn lines_fit(s: &[u8], at: usize, n: usize) -> bool
     n <= (s.len() - at) / LINE_MAP_ENTRY_SIZE
 }
 
-// Whether the key (function, offset) of `b` is not below that of `a`.
+// Whether the key (function, offset) of `b` is at least that of `a`.
 fn in_order(a: LineMapEntry, b: LineMapEntry) -> bool
     ensures { λ r. ⌜ r ≡ inOrder (lineIn a) (lineIn b) ⌝ }
 {
@@ -87,9 +87,9 @@ fn in_order(a: LineMapEntry, b: LineMapEntry) -> bool
     false
 }
 
-// Whether the keys of the map's entries never fall.
+// Whether the keys never fall from one entry to the next.
 fn never_falls(s: &[u8], at: usize, n: usize) -> bool
-    requires { ⌜ 10 * n ≤ length (now s) - at ⌝ }
+    requires { ⌜ lineMapEntrySize * n ≤ length (now s) - at ⌝ }
     ensures { λ r. ⌜ found r ≡ sortedIn (now (s .entry)) at n ⌝ }
 {
     if n == 0 {
@@ -109,7 +109,7 @@ fn never_falls(s: &[u8], at: usize, n: usize) -> bool
     true
 }
 
-// Whether the map is sorted. One that the section does not hold whole is not.
+// Whether the map is sorted. A map that the section does not hold whole is not.
 pub fn is_sorted(s: &[u8], at: usize, n: usize) -> bool
     ensures { λ r. ⌜ r ≡ isSorted (now (s .entry)) at n ⌝ }
 {
@@ -134,7 +134,7 @@ fn is_above(e: LineMapEntry, function_id: FunctionId, bytecode_offset: u16) -> b
     false
 }
 
-// Of the best so far and a later candidate: the later one, unless its offset is less.
+// The better of the best entry so far and a later candidate: the later one, unless its offset is lower.
 fn better(best: MaybeLine, e: LineMapEntry) -> MaybeLine
     ensures { λ r. ⌜ maybeLine r ≡ better (maybeLine best) (lineIn e) ⌝ }
 {
@@ -150,9 +150,9 @@ fn better(best: MaybeLine, e: LineMapEntry) -> MaybeLine
     }
 }
 
-// The entry for the query, by a walk over a sorted map that ends at the first entry whose key is above the query.
+// The entry for the query: a walk over a sorted map, which ends at the first entry whose key is above the query.
 fn choose(s: &[u8], at: usize, n: usize, function_id: FunctionId, bytecode_offset: u16) -> MaybeLine
-    requires { ⌜ 10 * n ≤ length (now s) - at ⌝ }
+    requires { ⌜ lineMapEntrySize * n ≤ length (now s) - at ⌝ }
     ensures { λ r. ⌜ found (maybeLine r) ≡ choiceIn (now (s .entry)) at n («function_id» .0) «bytecode_offset» ⌝ }
 {
     let mut i = 0;
@@ -172,7 +172,7 @@ fn choose(s: &[u8], at: usize, n: usize, function_id: FunctionId, bytecode_offse
     }
 }
 
-// The source location of a function's bytecode offset: the last entry of the function whose offset is greatest among those not above it.
+// The source location of an offset in a function's bytecode: the function's last entry with the greatest offset not above it.
 pub fn lookup_source_location(
     s: &[u8],
     at: usize,
@@ -232,7 +232,7 @@ pub fn next_line(s: &[u8], t: Table) -> LineNext
     )
 }
 
-// The claims of `specs/Laws.antt` hold. There is no code: the contract makes the check prove them.
+// The claims of `specs/Laws.antt` hold. Empty body: the contract makes the checker prove them.
 pub fn laws_hold()
     ensures { λ _. ⌜ Laws ⌝ }
 {}

@@ -1,10 +1,10 @@
-// One step of a walk over a table of a file that puts the entry's line into a buffer that the caller lends, at the place `at`: a function for each
-// table, and one for any.
+// One step of a walk over a table of a file, which writes the entry's line at the place `at` of a buffer that the caller lends: a function for each
+// kind of entry, and one for any kind.
 ghost use mathlib.Core.Path.{_≡_};
 ghost use Rattle.base.specs.Section.{placeIn};
 ghost use Rattle.line_steps.specs.Steps.{nextLineAt};
 ghost use Rattle.line_steps.specs.Answers.{behindLine, PutsNext};
-ghost use Rattle.line_steps.specs.declared.Listed.the-variants as listed;
+ghost use Rattle.line_steps.specs.declared.EntryKind.the-variants as kind;
 use base::section::Section;
 use code_section::FuncNext;
 use code_section::next_function;
@@ -19,13 +19,13 @@ use entry_lines::put_line_entry;
 use entry_lines::put_program;
 use entry_lines::put_task;
 use entry_lines::put_user_fb;
+use lent::Put;
 use line_map::LineNext;
 use reading::Table;
 use task_table::ProgramNext;
 use task_table::TaskNext;
 use task_table::next_program;
 use task_table::next_task;
-use text::Put;
 use type_section::ArrayNext;
 use type_section::FieldNext;
 use type_section::UserFbNext;
@@ -33,8 +33,8 @@ use type_section::next_array;
 use type_section::next_field;
 use type_section::next_user_fb;
 
-// The tables that are listed, each by a line for an entry.
-pub enum Listed {
+// The kinds of entries that have a line of their own; FB types are written with their fields.
+pub enum EntryKind {
     Tasks,
     Programs,
     Fields,
@@ -45,14 +45,14 @@ pub enum Listed {
     Lines,
 }
 
-// What a step does: its line does not fit; no entry; or it puts a line, and answers the place behind it and the table of the other entries.
+// What a step does: its line does not fit; there is no entry; or it writes a line, and returns the place behind it and the table of the other entries.
 pub enum PutNext {
     NoRoom,
     End,
     At(usize, Table),
 }
 
-// A line that was put, or does not fit, and the table of the other entries.
+// A line that was written or does not fit, and the table of the other entries.
 fn behind(line: Put, more: Table) -> PutNext
     ensures { λ r. ⌜ r ≡ behindLine line more ⌝ }
 {
@@ -63,7 +63,7 @@ fn behind(line: Put, more: Table) -> PutNext
 }
 
 fn put_next_task(out: &mut [u8], at: usize, file: &[u8], section: Section, rest: Table) -> PutNext
-    ensures { λ r. ⌜ PutsNext (now (out .entry)) at (nextLineAt listed.Tasks (now (file .entry)) (placeIn section) 0 rest) (now (out .exit)) r ⌝ }
+    ensures { λ r. ⌜ PutsNext (now (out .entry)) at (nextLineAt kind.Tasks (now (file .entry)) (placeIn section) 0 rest) (now (out .exit)) r ⌝ }
 {
     match next_task(file, section, rest) {
         TaskNext::End => PutNext::End,
@@ -79,7 +79,7 @@ fn put_next_program(
     section: Section,
     rest: Table,
 ) -> PutNext
-    ensures { λ r. ⌜ PutsNext (now (out .entry)) at (nextLineAt listed.Programs (now (file .entry)) (placeIn section) 0 rest) (now (out .exit)) r ⌝ }
+    ensures { λ r. ⌜ PutsNext (now (out .entry)) at (nextLineAt kind.Programs (now (file .entry)) (placeIn section) 0 rest) (now (out .exit)) r ⌝ }
 {
     match next_program(file, section, rest) {
         ProgramNext::End => PutNext::End,
@@ -89,7 +89,7 @@ fn put_next_program(
 }
 
 fn put_next_field(out: &mut [u8], at: usize, file: &[u8], section: Section, rest: Table) -> PutNext
-    ensures { λ r. ⌜ PutsNext (now (out .entry)) at (nextLineAt listed.Fields (now (file .entry)) (placeIn section) 0 rest) (now (out .exit)) r ⌝ }
+    ensures { λ r. ⌜ PutsNext (now (out .entry)) at (nextLineAt kind.Fields (now (file .entry)) (placeIn section) 0 rest) (now (out .exit)) r ⌝ }
 {
     match next_field(file, section, rest) {
         FieldNext::End => PutNext::End,
@@ -106,7 +106,7 @@ fn put_next_array(
     index: usize,
     rest: Table,
 ) -> PutNext
-    ensures { λ r. ⌜ PutsNext (now (out .entry)) at (nextLineAt listed.Arrays (now (file .entry)) (placeIn section) index rest) (now (out .exit)) r ⌝ }
+    ensures { λ r. ⌜ PutsNext (now (out .entry)) at (nextLineAt kind.Arrays (now (file .entry)) (placeIn section) index rest) (now (out .exit)) r ⌝ }
 {
     match next_array(file, section, rest) {
         ArrayNext::End => PutNext::End,
@@ -122,7 +122,7 @@ fn put_next_user_fb(
     section: Section,
     rest: Table,
 ) -> PutNext
-    ensures { λ r. ⌜ PutsNext (now (out .entry)) at (nextLineAt listed.UserFbs (now (file .entry)) (placeIn section) 0 rest) (now (out .exit)) r ⌝ }
+    ensures { λ r. ⌜ PutsNext (now (out .entry)) at (nextLineAt kind.UserFbs (now (file .entry)) (placeIn section) 0 rest) (now (out .exit)) r ⌝ }
 {
     match next_user_fb(file, section, rest) {
         UserFbNext::End => PutNext::End,
@@ -139,7 +139,7 @@ fn put_next_constant(
     index: usize,
     rest: Table,
 ) -> PutNext
-    ensures { λ r. ⌜ PutsNext (now (out .entry)) at (nextLineAt listed.Constants (now (file .entry)) (placeIn section) index rest) (now (out .exit)) r ⌝ }
+    ensures { λ r. ⌜ PutsNext (now (out .entry)) at (nextLineAt kind.Constants (now (file .entry)) (placeIn section) index rest) (now (out .exit)) r ⌝ }
 {
     match next_constant(file, section, rest) {
         ConstNext::End => PutNext::End,
@@ -155,7 +155,7 @@ fn put_next_function(
     section: Section,
     rest: Table,
 ) -> PutNext
-    ensures { λ r. ⌜ PutsNext (now (out .entry)) at (nextLineAt listed.Functions (now (file .entry)) (placeIn section) 0 rest) (now (out .exit)) r ⌝ }
+    ensures { λ r. ⌜ PutsNext (now (out .entry)) at (nextLineAt kind.Functions (now (file .entry)) (placeIn section) 0 rest) (now (out .exit)) r ⌝ }
 {
     match next_function(file, section, rest) {
         FuncNext::End => PutNext::End,
@@ -165,7 +165,7 @@ fn put_next_function(
 }
 
 fn put_next_line(out: &mut [u8], at: usize, file: &[u8], section: Section, rest: Table) -> PutNext
-    ensures { λ r. ⌜ PutsNext (now (out .entry)) at (nextLineAt listed.Lines (now (file .entry)) (placeIn section) 0 rest) (now (out .exit)) r ⌝ }
+    ensures { λ r. ⌜ PutsNext (now (out .entry)) at (nextLineAt kind.Lines (now (file .entry)) (placeIn section) 0 rest) (now (out .exit)) r ⌝ }
 {
     match next_line(file, section, rest) {
         LineNext::End => PutNext::End,
@@ -174,26 +174,26 @@ fn put_next_line(out: &mut [u8], at: usize, file: &[u8], section: Section, rest:
     }
 }
 
-// The next line of any table, of the entry that has the index `index`.
+// The next line of any table; `index` is the entry's index.
 pub fn put_next(
     out: &mut [u8],
     at: usize,
     file: &[u8],
     section: Section,
-    listed: Listed,
+    kind: EntryKind,
     index: usize,
     rest: Table,
 ) -> PutNext
-    ensures { λ r. ⌜ PutsNext (now (out .entry)) at (nextLineAt listed (now (file .entry)) (placeIn section) index rest) (now (out .exit)) r ⌝ }
+    ensures { λ r. ⌜ PutsNext (now (out .entry)) at (nextLineAt kind (now (file .entry)) (placeIn section) index rest) (now (out .exit)) r ⌝ }
 {
-    match listed {
-        Listed::Tasks => put_next_task(out, at, file, section, rest),
-        Listed::Programs => put_next_program(out, at, file, section, rest),
-        Listed::Fields => put_next_field(out, at, file, section, rest),
-        Listed::Arrays => put_next_array(out, at, file, section, index, rest),
-        Listed::UserFbs => put_next_user_fb(out, at, file, section, rest),
-        Listed::Constants => put_next_constant(out, at, file, section, index, rest),
-        Listed::Functions => put_next_function(out, at, file, section, rest),
-        Listed::Lines => put_next_line(out, at, file, section, rest),
+    match kind {
+        EntryKind::Tasks => put_next_task(out, at, file, section, rest),
+        EntryKind::Programs => put_next_program(out, at, file, section, rest),
+        EntryKind::Fields => put_next_field(out, at, file, section, rest),
+        EntryKind::Arrays => put_next_array(out, at, file, section, index, rest),
+        EntryKind::UserFbs => put_next_user_fb(out, at, file, section, rest),
+        EntryKind::Constants => put_next_constant(out, at, file, section, index, rest),
+        EntryKind::Functions => put_next_function(out, at, file, section, rest),
+        EntryKind::Lines => put_next_line(out, at, file, section, rest),
     }
 }

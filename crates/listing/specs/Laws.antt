@@ -1,4 +1,4 @@
--- The lister's text for the mill file M, as document 01 has it, and lines of the kinds that M does not have.
+-- The listing of the mill file M, as document 01 prints it, and lines of the kinds that M lacks.
 use Prim.Native.Nat.{ℕ}
 use mathlib.Core.List.{List, [], _∷_, _++_}
 use mathlib.Core.Option.{some}
@@ -46,7 +46,7 @@ millText =
     ++ ascii "line 0 3 0 2 9\n"
     ++ ascii "end\n"
 
--- entries of which no two fields are the same
+-- entries no two fields of which are equal
 abbrev pub someTask : Task
 someTask =
     record {

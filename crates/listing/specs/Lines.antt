@@ -1,4 +1,4 @@
--- The lines of the lister that stand for no entry of a table (document 01, "Mill file M", "Fields: ..").
+-- The lister's lines other than entries of tables (document 01, "Mill file M", from "Fields: version, profile, flags" on).
 use Prim.Native.Nat.{ℕ}
 use mathlib.Core.List.{List, [], _∷_}
 use mathlib.Core.Option.{Option, none, some}
@@ -12,7 +12,7 @@ use Rattle.text.specs.Text.{ascii, line, dashLine}
 abbrev pub containerLine : Header → List ℕ
 containerLine h = line (ascii "container") (h .version ∷ h .profile ∷ h .flags ∷ [])
 
--- the counts of tags 1, 2, 3, 4, 6, 9, or "none"
+-- "`debug` counts tags 1, 2, 3, 4, 6, 9, or says `none`."
 abbrev pub debugLine : Option DebugCounts → List ℕ
 debugLine none = ascii "debug none\n"
 debugLine (some c) = line (ascii "debug") (c .lines ∷ c .variables ∷ c .functions ∷ c .strings ∷ c .files ∷ c .enumerations ∷ [])
@@ -20,7 +20,7 @@ debugLine (some c) = line (ascii "debug") (c .lines ∷ c .variables ∷ c .func
 abbrev pub endLine : List ℕ
 endLine = ascii "end\n"
 
--- the number, its values or "-"
+-- "A refused file prints one line, `refused`, the number, its values or `-`."
 abbrev pub valuesLine : ℕ → List ℕ → List ℕ
 valuesLine n [] = dashLine (ascii "refused") (n ∷ [])
 valuesLine n (v ∷ vs) = line (ascii "refused") (n ∷ v ∷ vs)

@@ -1,5 +1,5 @@
--- The listing of a file (document 01, "Mill file M", "Fields: .."): entries in file order; of the debug tables only lines are listed;
--- `end` closes a loaded file's lines; a refused file has one line.
+-- The listing of a file (document 01, "Mill file M"): "entries in file order"; "of the debug tables only lines are listed"; "`end` closes a loaded
+-- file's lines"; "A refused file prints one line".
 use Prim.Native.Nat.{ℕ, suc}
 use mathlib.Core.List.{List, [], _∷_, _++_}
 use mathlib.Core.Option.{Option, none, some}
@@ -17,7 +17,7 @@ unfoldable pub each : {A : Type 0} → (A → List ℕ) → List A → List ℕ
 each lineOf [] = []
 each lineOf (a ∷ xs) = lineOf a ++ each lineOf xs
 
--- the same with indices, of which the first is i
+-- the same with indices, from i on
 unfoldable pub indexedFrom : {A : Type 0} → ℕ → (ℕ → A → List ℕ) → List A → List ℕ
 indexedFrom i lineOf [] = []
 indexedFrom i lineOf (a ∷ xs) = lineOf i a ++ indexedFrom (suc i) lineOf xs
@@ -26,7 +26,7 @@ indexedFrom i lineOf (a ∷ xs) = lineOf i a ++ indexedFrom (suc i) lineOf xs
 abbrev pub fbTypeLines : FbType → List ℕ
 fbTypeLines b = fbTypeLine (record { id = b .id; fieldCount = length (b .fields) }) ++ each fieldLine (b .fields)
 
--- no types look like empty ones
+-- a file without types is listed as one with empty types
 abbrev pub typeLines : Option TypeTables → List ℕ
 typeLines none = []
 typeLines (some t) = each fbTypeLines (t .fbTypes) ++ indexedFrom 0 arrayLine (t .arrays) ++ each userFbLine (t .userFbs)

@@ -1,5 +1,5 @@
 -- What a reader's item costs: of the bytes of its section each pays for k bytes of text. `Costs c k len r`: with c bytes paid before, the bytes
--- that `r` takes pay for the `len a` bytes of text of its item. Closed under `do`, so that the law of an entry is one line for each field.
+-- that `r` takes pay for the `len a` bytes of text of its item. Closed under `do`, so the law of an entry is one line for each field.
 use Prim.Native.Nat.{ℕ, zero, suc, _+_, _*_, _<_, _≤_, _^_}
 use mathlib.Core.Path.{_≡_, refl, ap}
 use mathlib.Core.Bool.{Bool, true, false, cond}

@@ -18,7 +18,7 @@ use Rattle.format.specs.Constants.{isNumber, keptOf, sizeFits, constant}
 use Rattle.format.specs.Code.{function}
 use Rattle.format.specs.Debug.{line}
 use Rattle.text.specs.Text.{ascii, ended, hexOrDash}
-use Rattle.text.proofs.Putting.{hex-most}
+use Rattle.text.proofs.Parts.{hex-most}
 use Rattle.entry_lines.specs.Lines.{taskLine, programLine, fbTypeLine, fieldLine, sizedLine, arrayLine, userFbLine, keptBytes, constantLine, functionLine, lineLine}
 use Rattle.listing.specs.Listing.{each, fbTypeLines}
 use Rattle.listing_room.proofs.Short.{Few, spaced, ended-few}

@@ -1,37 +1,40 @@
 -- The claims of `specs/Laws.antt`: what a load that finds has read of each section, and the lines of no table.
 use Prim.Native.Nat.{ℕ, suc, _+_, _*_, _≤_}
-use mathlib.Core.Path.{_≡_, refl, sym, ap}
+use mathlib.Core.Path.{_≡_, refl, sym, ap, _∙_}
+use mathlib.Core.Bool.{Bool, true, false}
 use mathlib.Core.List.{List, [], _∷_}
 use mathlib.Core.Option.{Option, none, some}
 use native.Mathlib.Nat.{mul-le-mul-left, zero-add}
 use native.Mathlib.Omega.{arith}
 use lib.ListN.{length, length-append, length-take, length-drop}
-use borrow.Author.Tests.{le-leb}
+use borrow.Author.Tests.{leb-true, leb-false, le-leb}
+use lib.Dec.{leb}
 use Rattle.reading.specs.Fault.{Fault}
 use Rattle.reading.specs.Reader.{Read, fault, got, Reader}
 use Rattle.reading.specs.Answer.{Got, refused, found, need, itemOf}
 use Rattle.reading.proofs.Le.{Bytes, bytes-part}
-use Rattle.format.specs.Faults.{sectionSizeMismatch}
-use Rattle.format.specs.Parts.{Place, cut, isInside, byBytes}
+use Rattle.format.specs.Faults.{sectionSizeMismatch, tooLong}
+use Rattle.format.specs.Parts.{programLimit, Place, cut, isInside, byBytes}
 use Rattle.format.specs.Header.{Header}
 use Rattle.format.specs.Types.{TypeTables}
 use Rattle.format.specs.Debug.{Tables, debugTables}
 use Rattle.format.specs.Integrity.{sectionIn}
 use Rattle.format.specs.Load.{Loaded, readIn, readable, typesFound, debugOf, debugFound, load}
-use Rattle.format.specs.Record.{debugCounts}
-use Rattle.format.specs.Refusals as of
-use Rattle.format.specs.Refusals.{OfSections, OfReading, Only}
+use Rattle.format.specs.Record.{debugCounts, forProgram}
+use Rattle.format.specs.Refusals.{OfTasks, OfTypes, OfConstants, OfCode, OfLoading, Only}
 use Rattle.format.proofs.Answers.{absent, same-found, same-some, steps, item-got}
+use Rattle.format.proofs.ProgramLimit.{within-limit, above-limit}
 use Rattle.format.proofs.Loads.{facts, types-read, debug-read}
 use Rattle.format.proofs.Refusals.{refusals}
 use Rattle.base.specs.Error.{refusalNumber, refusalValues}
-use Rattle.text.specs.Text.{ascii, putAnswer}
-use Rattle.text.specs.declared.Put.the-variants as put
-use Rattle.text.proofs.Putting.{numbers-short}
+use Rattle.lent.specs.Output.{putAnswer}
+use Rattle.lent.specs.declared.Put.the-variants as put
+use Rattle.text.specs.Text.{ascii, digits, numbers}
+use Rattle.text.proofs.Parts.{numbers-short}
 use Rattle.entry_lines.specs.Lines.{lineLine}
-use Rattle.listing.specs.Lines.{debugLine, valuesLine}
+use Rattle.listing.specs.Lines.{debugLine, valuesLine, refusedLine}
 use Rattle.listing.specs.Listing.{each, typeLines, debugLines, listingOf}
-use Rattle.listing_room.specs.Laws.{AllLaws}
+use Rattle.listing_room.specs.Laws.{listingRoom, AllLaws}
 use Rattle.listing_room.proofs.Short.{ended-short}
 use Rattle.listing_room.proofs.Costs.{Costs}
 use Rattle.listing_room.proofs.Sections.{costs-tasks, costs-types, costs-constants, costs-code, costs-debug}
@@ -97,27 +100,40 @@ found-short hash f b l e =
 
 -- A refused file: a refusal has at most two values
 
-few-of-sections : {f : Fault} → OfSections f → length (refusalValues f) ≤ 2
-few-of-sections of.too-long = omega arith
-few-of-sections of.short = omega arith
-few-of-sections of.place = omega arith
-few-of-sections (of.task-type kind h) = omega arith
-few-of-sections (of.field-type kind h) = omega arith
-few-of-sections (of.stride kind extra stride h) = omega arith
-few-of-sections (of.constant-type kind h) = omega arith
-few-of-sections (of.constant-size kind size h g) = omega arith
+few-of-tasks : {f : Fault} → OfTasks f → length (refusalValues f) ≤ 2
+few-of-tasks OfTasks.short = omega arith
+few-of-tasks (OfTasks.task-type kind h) = omega arith
 
-few-values : {f : Fault} → OfReading f → length (refusalValues f) ≤ 2
-few-values (OfReading.section h) = few-of-sections h
-few-values of.magic = omega arith
-few-values of.version = omega arith
-few-values of.hash-unequal = omega arith
+few-of-types : {f : Fault} → OfTypes f → length (refusalValues f) ≤ 2
+few-of-types OfTypes.short = omega arith
+few-of-types (OfTypes.field-type kind h) = omega arith
+few-of-types (OfTypes.stride kind extra stride h) = omega arith
+
+few-of-constants : {f : Fault} → OfConstants f → length (refusalValues f) ≤ 2
+few-of-constants OfConstants.short = omega arith
+few-of-constants (OfConstants.constant-type kind h) = omega arith
+few-of-constants (OfConstants.constant-size kind size h g) = omega arith
+
+few-of-code : {f : Fault} → OfCode f → length (refusalValues f) ≤ 2
+few-of-code OfCode.short = omega arith
+
+few-values : {f : Fault} → OfLoading f → length (refusalValues f) ≤ 2
+few-values OfLoading.too-long = omega arith
+few-values OfLoading.short-header = omega arith
+few-values OfLoading.magic = omega arith
+few-values OfLoading.version = omega arith
+few-values OfLoading.place = omega arith
+few-values OfLoading.hash-unequal = omega arith
+few-values (OfLoading.tasks h) = few-of-tasks h
+few-values (OfLoading.types h) = few-of-types h
+few-values (OfLoading.constants h) = few-of-constants h
+few-values (OfLoading.code h) = few-of-code h
 
 values-short : (n : ℕ) (vs : List ℕ) → length (valuesLine n vs) ≤ 10 + 21 * suc (length vs)
 values-short n [] = omega (arith, ended-short (ascii "refused") (n ∷ []) (ascii " -\n"))
 values-short n (v ∷ vs) = omega (arith, ended-short (ascii "refused") (n ∷ v ∷ vs) (ascii "\n"))
 
-short : (hash : List ℕ → List ℕ) (f : List ℕ) → Bytes f → (x : Got Loaded) → load hash f ≡ x → Only OfReading x → length (listingOf x) ≤ 26 * length f + 300
+short : (hash : List ℕ → List ℕ) (f : List ℕ) → Bytes f → (x : Got Loaded) → load hash f ≡ x → Only OfLoading x → length (listingOf x) ≤ 26 * length f + 300
 short hash f b (found l) e o = found-short hash f b l e
 short hash f b (refused g) e o = omega (arith, few-values o, values-short (refusalNumber g) (refusalValues g))
 
@@ -128,10 +144,24 @@ put-where-fits : (before t : List ℕ) → length t ≤ length before → putAns
 unfolding putAnswer
 put-where-fits before t h = rw (le-leb (0 + length t) (length before) (omega arith)) (ap put.At (zero-add (length t)))
 
+line-of-10 : refusedLine tooLong ≡ ascii "refused 10 -\n"
+unfolding numbers digits
+line-of-10 = refl
+
+-- what a program lists: 10 above its limit, and else the library's listing
+fits : (hash : List ℕ → List ℕ) (f : List ℕ) → Bytes f → length (listingOf (forProgram f (load hash f))) ≤ listingRoom
+fits hash f b = go (leb (length f) programLimit) refl
+  where
+    go : (z : Bool) → leb (length f) programLimit ≡ z → length (listingOf (forProgram f (load hash f))) ≤ listingRoom
+    go true e = let h = leb-true (length f) programLimit e in rw (within-limit f (load hash f) h) (omega (arith, linear hash f b))
+    go false e = let h = leb-false (length f) programLimit e in rw (above-limit f (load hash f) h) (omega (arith, values-short 10 []))
+
 pub laws : AllLaws
 laws hash =
     record {
       linear = linear hash;
-      fits = λ f b h. omega (arith, linear hash f b);
-      always-put = λ f before b h r. put-where-fits before (listingOf (load hash f)) (omega (arith, linear hash f b));
+      within = λ f h. ap listingOf (within-limit f (load hash f) h);
+      above = λ f h. ap listingOf (above-limit f (load hash f) h) ∙ line-of-10;
+      fits = fits hash;
+      always-put = λ f before b r. put-where-fits before (listingOf (forProgram f (load hash f))) (omega (arith, fits hash f b));
     }

@@ -7,7 +7,7 @@ use native.Mathlib.Nat.{pow-succ'}
 use lib.Dec.{ltb}
 use lib.ListN.{length, length-append}
 use Rattle.text.specs.Text.{ascii, digits, decimal, numbers, ended}
-use Rattle.text.proofs.Putting.{digits-one, either-short, numbers-short}
+use Rattle.text.proofs.Parts.{digits-one, either-short, numbers-short}
 
 -- a number below 10 to the power d has at most d digits
 digits-few : (k d n : ℕ) → 0 < d → n < 10 ^ d → length (digits k n) ≤ d

@@ -1,7 +1,7 @@
-// How long the listing of a file can be. There is no code: the claims stand in `specs/Laws.antt`.
+// How long the listing of a file can be.
 ghost use Rattle.listing_room.specs.Laws.{AllLaws};
 
-// The contract makes the check prove the claims.
+// The claims of `specs/Laws.antt` hold. Empty body: the contract makes the checker prove them.
 pub fn laws_hold()
     ensures { λ _. ⌜ AllLaws ⌝ }
 {}

@@ -83,6 +83,11 @@ le-step s i p h =
 pub le-drop-fits : (k : ℕ) (s : List ℕ) (i : ℕ) → Bytes s → length s ≤ i + k → le (drop i s) < 256 ^ k
 le-drop-fits k s i h g = le-fits k (drop i s) (bytes-drop s i h) (simp length-drop (omega arith))
 
+pub bytes-length : (w n : ℕ) → length (bytesLe w n) ≡ w
+unfolding bytesLe
+bytes-length zero n = refl
+bytes-length (suc w) n = ap suc (bytes-length w (n / 256))
+
 -- a number taken apart into bytes and put together again
 pub le-all : (w n : ℕ) → n < 256 ^ w → le (bytesLe w n) ≡ n
 unfolding bytesLe le

@@ -1,4 +1,4 @@
--- Passing over items: the laws of `Goes`. A loop over a table keeps `Passed`, and needs its four laws alone.
+-- Passing over items: the laws of `Goes`. A loop over a table keeps `Passed`, and needs only its four laws.
 use mathlib.Core.Path.{_≡_, refl, subst}
 use mathlib.Core.List.{List, [], _∷_}
 use Prim.Native.Nat.{ℕ, suc, _+_, _-_, _≤_, _<_}
@@ -59,7 +59,7 @@ module _ {A : Type 0} (r : Reader A) (s : List ℕ) where
   pub counted-as : (at n : ℕ) → at + 2 ≤ length s → n ≡ leAt 2 s at → counted r (drop at s) ≡ many n r (drop (at + 2) s)
   counted-as at n h e = rw (number-at 2 s at (at + 2) refl h, e)
 
--- what a `match` on an answer told
+-- what a `match` on an answer showed
 pub goes-told : {A : Type 0} (r : Reader A) (s : List ℕ) (at : ℕ) {v w : Way} → v ≡ w → Goes r s at v → Goes r s at w
 goes-told r s at e g = subst (λ x. Goes r s at x) e g
 

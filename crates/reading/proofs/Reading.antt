@@ -13,7 +13,7 @@ use Rattle.reading.specs.Numbers.{leAt}
 use Rattle.reading.specs.Reader.{Read, fault, got, Reader, next, bytes, number}
 use Rattle.reading.proofs.Le.{Bytes, bytes-part, le-fits}
 
--- a fault is no item
+-- a fault is not an item
 pub never : {A : Type 0} {B : Type 0} {f : Fault} {a : A} {t : List ℕ} → fault f ≡ got a t → B
 never e = absurd (let z : _≡_ {A = ℕ} 0 1 = cc in omega arith)
 

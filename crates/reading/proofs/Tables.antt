@@ -115,7 +115,7 @@ module _ {A : Type 0} (r : Reader A) where
   pub at-reads : {xs : List A} {k : ℕ} {x : List ℕ} → At r xs k x → (f : Fault) → r x ≡ fault f → ⊥
   at-reads h f e = never (sym e ∙ h .reads)
 
-  -- the same by what was read at a place `p`, and what a `match` on the answer told
+  -- the same by what was read at a place `p`, and what a `match` on the answer showed
   module _ {xs : List A} {k : ℕ} (s : List ℕ) (p : ℕ) (h : At r xs k (drop p s)) (out : Fault) where
     at-is : (x : Step A) → Reads r s p x → answerBy x ≡ indexed out xs k
     at-is (stops f) g = absurd (at-reads h f g)

@@ -1,5 +1,5 @@
 -- Readers of one width. `Width k r`: each item takes k bytes. `Needs k r`: with fewer bytes it stops with 1. `Fixed k r`: both, and with k
--- bytes it gives an item. Each is closed under `do`, so that the law of an entry is one line.
+-- bytes it gives an item. Each is closed under `do`, so the law of an entry is one line.
 use mathlib.Core.Path.{_≡_, refl, sym, ap, subst, _∙_}
 use mathlib.Core.Bool.{Bool, true, false}
 use mathlib.Core.List.{List, [], _∷_}

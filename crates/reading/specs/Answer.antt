@@ -1,4 +1,4 @@
--- What reading a file and every lookup answer: a refusal, or what was asked for.
+-- What reading a file and every lookup give: a refusal, or what was asked for.
 use Prim.Native.Nat.{ℕ, zero, suc}
 use mathlib.Core.Bool.{Bool, cond}
 use mathlib.Core.List.{List, [], _∷_}

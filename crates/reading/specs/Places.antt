@@ -1,4 +1,4 @@
--- How code that keeps places instead of lists is held to a reader.
+-- How code that keeps places instead of lists is compared with a reader.
 use Prim.Native.Nat.{ℕ, zero, suc, _-_, _≤_}
 use mathlib.Core.Bool.{cond}
 use mathlib.Core.List.{List, [], _∷_}
@@ -56,7 +56,7 @@ pub record Holds {A : Type 0} (r : Reader A) (s : List ℕ) (t : Table) (xs : Li
   pub rest : List ℕ
   pub reads : leftOf r s t ≡ got xs rest
 
--- One step of a walk over a table, over any list and table: no entry is left; the next one stops with a fault; or it is `a`, and the table
+-- One step of a walk, over any list and table: no entry is left; the next one stops with a fault; or it is `a`, and the table
 -- of the others starts behind it
 
 pub data Next (A : Type 0) : Type 0 where
@@ -85,7 +85,7 @@ driven step (suc n) t = onNext (step t) (driven step n)
 abbrev pub Gives : {A : Type 0} → (Table → Next A) → Table → List A → Type 0
 Gives step t xs = (n : ℕ) → t .count ≤ n → driven step n t ≡ found xs
 
--- the steps, driven from the table that `start` answers, give `xs`
+-- the steps, driven from the table that `start` gives, yield `xs`
 pub record GivesFrom {A : Type 0} (start : Got Table) (step : Table → Next A) (xs : List A) : Type 0 where
   pub first : Table
   pub starts : start ≡ found first

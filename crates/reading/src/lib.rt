@@ -1,17 +1,16 @@
-// Numbers at a place of a slice, low byte first, the place of a table, and bytes copied.
+// Numbers at a place of a slice, low byte first, and the place of a table.
 ghost use mathlib.Core.Path.{_≡_};
-ghost use mathlib.Core.List.{_++_};
 ghost use Prim.Native.Nat.{_+_, _≤_, _<_};
-ghost use lib.ListN.{length, take, drop};
+ghost use lib.ListN.{length};
 ghost use Rattle.reading.specs.Numbers.{leAt};
 
-// A table: where its next entry stands, and how many entries there are from there on. It is the cursor of a walk too.
+// A table: where its next entry stands, and how many entries there are from there on. It is also the cursor of a walk.
 pub struct Table {
     pub at: usize,
     pub count: usize,
 }
 
-// A byte as a wider number: the cast asks nothing here, and an index alone at the caller.
+// Widens a byte. In a function of its own the cast needs no proof at the call sites.
 fn wide(b: u8) -> u16
     ensures { λ r. ⌜ (r ≡ b) × (r < 256) ⌝ }
 {
@@ -44,14 +43,4 @@ pub fn u64_at(s: &[u8], at: usize) -> u64
     ensures { λ r. ⌜ r ≡ leAt 8 (now (s .entry)) at ⌝ }
 {
     (u32_at(s, at) as u64) + 4294967296 * (u32_at(s, at + 4) as u64)
-}
-
-// The bytes of `part` copied to the place `at` of `out`.
-pub fn copy(out: &mut [u8], at: usize, part: &[u8])
-    requires { ⌜ at + length (now part) ≤ length (now out) ⌝ }
-    ensures { λ _. ⌜ now (out .exit) ≡ take at (now (out .entry)) ++ now (part .entry) ++ drop (at + length (now (part .entry))) (now (out .entry)) ⌝ }
-{
-    for i in 0..part.len() {
-        out[at + i] = part[i];
-    }
 }

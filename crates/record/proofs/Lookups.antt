@@ -1,4 +1,4 @@
--- Lookups in types and in debug, by what the record says of them.
+-- Lookups in types and in debug, by what the record says of them; the getters of constants, by what is picked from the constant.
 use mathlib.Core.Path.{_≡_, refl, ap, _∙_}
 use mathlib.Core.Bool.{Bool, true, false, cond}
 use mathlib.Core.List.{List}
@@ -6,14 +6,18 @@ use Prim.Native.Nat.{ℕ}
 use lib.Dec.{leb}
 use lib.ListN.{length}
 use Rattle.reading.specs.Fault.{Fault}
-use Rattle.reading.specs.Answer.{Got, refused, _>>=_, _>>_, need}
+use Rattle.reading.specs.Answer.{Got, refused, found, _>>=_, _>>_, need}
 use Rattle.format.specs.Faults.{tooLong, noArray, noDebug}
 use Rattle.format.specs.Parts.{limit, Place, byPlace}
 use Rattle.format.specs.Types.{TypeTables, typeTables}
 use Rattle.format.specs.Debug.{Tables}
-use Rattle.format.specs.Lookups.{readAt, typesIn, debugIn}
+use Rattle.format.specs.Constants.{asNumber, signed, asString, charWidth}
+use Rattle.format.specs.Lookups.{readAt, typesIn, debugIn, constantOf, numberOf, stringOf, charWidthOf}
+use Rattle.format.proofs.Answers.{assoc}
 use Rattle.base.specs.Section.{placeIn}
 use Rattle.type_section.specs.declared.TypeCounts.{TypeCounts}
+use Rattle.constant_pool.specs.Picks.{numberPicked}
+use Rattle.constant_pool.specs.Lookups.{poolAt, constantAt, stringAt, charWidthAt}
 use Rattle.debug_tables.specs.declared.DebugCounts.{DebugCounts}
 use Rattle.debug_tables.specs.declared.MaybeDebug.the-variants as maybe-debug
 use Rattle.debug_section.specs.Lookups.{debugTablesAt, startsAt}
@@ -58,3 +62,17 @@ module _ (f : List ℕ) (c : Container) where
   pub starts-present : {k : DebugCounts} {y : Got DebugTables} → c .debug ≡ maybe-debug.Some k
       → y ≡ startsAt f (placeIn (c .header .sections .«debug_section»)) → y ≡ debugStartsIn f (containerIn c)
   starts-present h a = rw h a
+
+-- a getter picks from the constant at an index; the lookup goes through the section's constants
+module _ (f : List ℕ) (p : Place) (i : ℕ) where
+  pub number-picked : (kind width : ℕ) → numberPicked kind width (constantAt f p i) ≡ (poolAt f p >>= numberOf kind width i)
+  number-picked kind width = assoc (poolAt f p) (constantOf i) (asNumber kind width)
+
+  pub signed-picked : (kind width half : ℕ) → (numberPicked kind width (constantAt f p i) >>= λ n. found (signed half n)) ≡ (poolAt f p >>= numberOf kind width i >>= λ n. found (signed half n))
+  signed-picked kind width half = ap (λ x. x >>= λ n. found (signed half n)) (number-picked kind width)
+
+  pub string-picked : stringAt f p i ≡ (poolAt f p >>= stringOf i)
+  string-picked = assoc (poolAt f p) (constantOf i) asString
+
+  pub width-picked : charWidthAt f p i ≡ (poolAt f p >>= charWidthOf i)
+  width-picked = assoc (poolAt f p) (constantOf i) charWidth

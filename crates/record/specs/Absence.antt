@@ -1,5 +1,5 @@
--- The refusal of every lookup in what the record has not: 10 over the limit, else `out`, which is 16 for types and 15 for debug (document 01: "A record
--- without types or debug gives 16 or 15 for any entry of theirs").
+-- The refusal of a lookup in types or debug that the record lacks: 10 over the limit, else `out`, which is 16 for types and 15 for debug (document 01:
+-- "A record without types or debug gives 16 or 15 for any entry of theirs").
 use Prim.Native.Nat.{ℕ}
 use mathlib.Core.Bool.{cond}
 use mathlib.Core.List.{List}

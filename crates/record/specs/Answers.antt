@@ -8,7 +8,7 @@ use Rattle.format.specs.Lookups.{debugAnswers}
 use Rattle.header.specs.Answers.{headerIn}
 use Rattle.task_table.specs.Answers as tasks
 use Rattle.type_section.specs.Answers as types
-use Rattle.debug_entries.specs.Answers.{EnumerationEntry, withValues}
+use Rattle.debug_entries.specs.Answers.{EnumerationWithValues, withValues}
 use Rattle.debug_tables.specs.Answers.{maybeDebug}
 use Rattle.record.specs.declared.MaybeTypes.{MaybeTypes}
 use Rattle.record.specs.declared.MaybeTypes.the-variants as maybe-types
@@ -28,6 +28,6 @@ containerIn c =
       debug = maybeDebug (c .debug);
     }
 
--- an enumeration with the table of its values' names, which stands in the debug section
-abbrev pub enumerationWith : List ℕ → format.Container → ℕ → Got EnumerationEntry
+-- an enumeration with the table of its values' names
+abbrev pub enumerationWith : List ℕ → format.Container → ℕ → Got EnumerationWithValues
 enumerationWith f r i = debugAnswers f r .enumeration i >>= λ h. found (withValues (r .header .directory .debug .offset) h)

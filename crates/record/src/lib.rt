@@ -1,4 +1,4 @@
-// The record that reading a file yields, and the lookups over it. Nothing vouches for a record: anybody can make one up, and a lookup reads its
+// The record that reading a file yields, and the lookups over it. A record is not trusted: anyone can construct one, and each lookup reads its
 // section again, at the record's place, size and function count.
 ghost use mathlib.Core.Path.{_≡_};
 ghost use Rattle.format.specs.Lookups.{runAnswers, debugAnswers};
@@ -31,9 +31,9 @@ use constant_pool::U64Answer;
 use constant_pool::WidthAnswer;
 use debug_section::EnumerationAnswer;
 use debug_section::FunctionNameAnswer;
-use debug_section::LayoutAnswer;
-use debug_section::SourceAnswer;
+use debug_section::SourceFileAnswer;
 use debug_section::StartsAnswer;
+use debug_section::StringLayoutAnswer;
 use debug_section::ValueAnswer;
 use debug_section::VariableAnswer;
 use debug_tables::MaybeDebug;
@@ -49,13 +49,13 @@ use type_section::FieldAnswer;
 use type_section::TypeCounts;
 use type_section::UserFbAnswer;
 
-// The type section's counts, where there is one.
+// The type section's counts, if there is one.
 pub enum MaybeTypes {
     None,
     Some(TypeCounts),
 }
 
-// A container: the header, which has every section's place and size and the function count, and the other counts.
+// A container: the header, which holds each section's place and size and the function count, and the other counts.
 pub struct Container {
     pub header: FileHeader,
     pub tasks: TaskCounts,
@@ -64,7 +64,7 @@ pub struct Container {
     pub debug: MaybeDebug,
 }
 
-// The refusal of every lookup in what the record has not: 10, then `out`.
+// The refusal of a lookup in types or debug that the record lacks: 10 first, else `out`.
 fn absent(file: &[u8], out: ContainerError) -> ContainerError
     ensures { λ r. ⌜ faultOf r ≡ absentFault (faultOf out) (now (file .entry)) ⌝ }
 {
@@ -116,7 +116,7 @@ impl Container {
         }
     }
 
-    // An FB type: its id and how many fields it has.
+    // An FB type: its id and its number of fields.
     pub fn fb_type(self, file: &[u8], index: u16) -> FbTypeAnswer
         ensures { λ r. ⌜ fbTypeFrom r ≡ runAnswers (now (file .entry)) (containerIn self) .fbType index ⌝ }
     {
@@ -219,7 +219,7 @@ impl Container {
         constant_pool::entry(file, self.header.sections.const_section, index)
     }
 
-    // A number, of the type that is asked for alone.
+    // A number constant; any other type is refused.
     pub fn get_i32(self, file: &[u8], index: ConstantIndex) -> I32Answer
         ensures { λ r. ⌜ i32From r ≡ runAnswers (now (file .entry)) (containerIn self) .i32 (index .0) ⌝ }
     {
@@ -264,14 +264,14 @@ impl Container {
         constant_pool::string_part(file, self.header.sections.const_section, index)
     }
 
-    // A string: that part of the file, and an empty part where `string_part` refuses.
+    // A string: that part of the file, or an empty part where `string_part` refuses.
     pub fn get_str(self, file: &[u8], index: ConstantIndex) -> &[u8]
         ensures { λ r. ⌜ now r ≡ bytesOr (now (file .entry)) (runAnswers (now (file .entry)) (containerIn self) .string (index .0)) ⌝ }
     {
         constant_pool::get_str(file, self.header.sections.const_section, index)
     }
 
-    // Bytes to a character of a string.
+    // Bytes per character of a string.
     pub fn char_width(self, file: &[u8], index: ConstantIndex) -> WidthAnswer
         ensures { λ r. ⌜ widthFrom r ≡ runAnswers (now (file .entry)) (containerIn self) .charWidth (index .0) ⌝ }
     {
@@ -313,7 +313,7 @@ impl Container {
         )
     }
 
-    // A function's bytecode: that part of the file, and an empty part where `bytecode_part` refuses.
+    // A function's bytecode: that part of the file, or an empty part where `bytecode_part` refuses.
     pub fn get_function_bytecode(self, file: &[u8], function_id: FunctionId) -> &[u8]
         ensures { λ r. ⌜ now r ≡ bytesOr (now (file .entry)) (runAnswers (now (file .entry)) (containerIn self) .bytecode («function_id» .0)) ⌝ }
     {
@@ -401,12 +401,12 @@ impl Container {
     }
 
     // A string's layout.
-    pub fn string_layout(self, file: &[u8], index: u16) -> LayoutAnswer
+    pub fn string_layout(self, file: &[u8], index: u16) -> StringLayoutAnswer
         ensures { λ r. ⌜ layoutFrom r ≡ debugAnswers (now (file .entry)) (containerIn self) .stringLayout index ⌝ }
     {
         let debug = self.debug;
         match debug {
-            MaybeDebug::None => LayoutAnswer::Refused(absent(file, ContainerError::NoDebug)),
+            MaybeDebug::None => StringLayoutAnswer::Refused(absent(file, ContainerError::NoDebug)),
             MaybeDebug::Some(_) => {
                 debug_section::string_layout(file, self.header.sections.debug_section, index)
             }
@@ -414,19 +414,19 @@ impl Container {
     }
 
     // A source file.
-    pub fn source_file(self, file: &[u8], file_id: SourceFileId) -> SourceAnswer
+    pub fn source_file(self, file: &[u8], file_id: SourceFileId) -> SourceFileAnswer
         ensures { λ r. ⌜ sourceFrom r ≡ debugAnswers (now (file .entry)) (containerIn self) .sourceFile («file_id» .0) ⌝ }
     {
         let debug = self.debug;
         match debug {
-            MaybeDebug::None => SourceAnswer::Refused(absent(file, ContainerError::NoDebug)),
+            MaybeDebug::None => SourceFileAnswer::Refused(absent(file, ContainerError::NoDebug)),
             MaybeDebug::Some(_) => {
                 debug_section::source_file(file, self.header.sections.debug_section, file_id)
             }
         }
     }
 
-    // An enumeration: its name and where its values stand.
+    // An enumeration: its name, and the table of its values' names.
     pub fn enumeration(self, file: &[u8], index: u16) -> EnumerationAnswer
         ensures { λ r. ⌜ enumerationFrom r ≡ enumerationWith (now (file .entry)) (containerIn self) index ⌝ }
     {

@@ -34,7 +34,7 @@ use Rattle.code_section.proofs.Entries.{laws as code-laws}
 use Rattle.debug_entries.specs.Answers.{entryOf, enumerationEntry}
 use Rattle.debug_tables.specs.declared.DebugTables.{DebugTables}
 use Rattle.debug_section.specs.Lookups.{debugTablesAt, startsAt}
-use Rattle.debug_section.proofs.Lying.{laws as section-laws}
+use Rattle.debug_section.proofs.Laws.{laws as section-laws}
 use Rattle.debug_walks.specs.Steps.{debugStepAt}
 use Rattle.debug_walks.specs.Laws as debug
 use Rattle.debug_walks.proofs.Walks.{laws as debug-laws}

@@ -1,18 +1,17 @@
-// Lists 400 files, whose listings by the Rust's release build are the expected output. Standard input has the files one behind the other, each behind
+// Lists 400 files, whose listings by the Rust's release build are the expected output. Standard input has the files one after the other, each behind
 // its length of two bytes, low byte first; a line with a full stop closes each listing.
-use libc::STDERR_FILENO;
-use libc::STDIN_FILENO;
-use libc::STDOUT_FILENO;
-use text::Put;
 ghost use Prim.Native.Nat.{_<_};
+use file_listing::page;
+use file_listing::put_on_page;
+use programs::first;
+use programs::read_input;
+use programs::write;
 
-// A length has two bytes.
-fn room() -> [u8; 65535] {
-    [0; 65535]
-}
+// More than the files have.
+const ROOM: usize = 262144;
 
-fn page() -> [u8; 2097152] {
-    [0; 2097152]
+fn room() -> [u8; ROOM] {
+    [0; ROOM]
 }
 
 fn wide(b: u8) -> usize
@@ -21,49 +20,32 @@ fn wide(b: u8) -> usize
     b as usize
 }
 
-fn list(file: &[u8], text: &mut [u8]) {
-    match file_text::put_file(text, 0, file) {
-        Put::NoRoom => {
-            io::write_all(STDERR_FILENO, b"the listing is too long\n");
-        }
-        Put::At(n) => {
-            if n <= text.len() {
-                io::write_all(STDOUT_FILENO, &text[..n]);
-            }
-        }
-    }
-    io::write_all(STDOUT_FILENO, b".\n");
-}
-
-// The length of the next file, or 65,536 where there is none.
-fn next_length() -> usize {
-    let mut head = [0u8; 2];
-    let n = io::read_full(STDIN_FILENO, &mut head);
-    if n < 2 {
-        return 65536;
-    }
-    wide(head[0]) + 256 * wide(head[1])
-}
-
-// The next file, of `n` bytes.
-fn replay(n: usize) {
-    let mut file = room();
-    if n > 65535 {
-        return;
-    }
-    let got = io::read_full(STDIN_FILENO, &mut file[..n]);
+fn list(file: &[u8]) {
     let mut text = page();
-    if got <= 65535 {
-        list(&file[..got], &mut text);
+    let end = put_on_page(&mut text, file);
+    write(first(&text, end));
+    write(b".\n");
+}
+
+fn replay(files: &[u8]) {
+    let mut at = 0;
+    while at < files.len() {
+        if files.len() - at < 2 {
+            return;
+        }
+        let size = wide(files[at]) + 256 * wide(files[at + 1]);
+        let start = at + 2;
+        if files.len() - start < size {
+            return;
+        }
+        let end = start + size;
+        list(&files[start..end]);
+        at = end;
     }
 }
 
 fn main() {
-    for _ in 0..65536usize {
-        let n = next_length();
-        if n == 65536 {
-            return;
-        }
-        replay(n);
-    }
+    let mut files = room();
+    let n = read_input(&mut files);
+    replay(&files[..n]);
 }

@@ -1,4 +1,4 @@
--- Each entry that a step answers is one less to come.
+-- Each entry that a step gives is one less to come.
 use Prim.Native.Nat.{ℕ, _-_}
 use mathlib.Core.Path.{_≡_, refl, sym, ap, _∙_}
 use mathlib.Core.List.{List}
@@ -19,8 +19,8 @@ use Rattle.type_section.specs.Lookups.{FbTypeEntry, withFields, nextFbTypeAt}
 use Rattle.debug_section.specs.Lookups.{debugPart}
 use Rattle.debug_walks.specs.Steps.{noDebugStep, debugStepBy, debugStepAt}
 use Rattle.line_steps.specs.Steps.{lined, nextLineAt}
-use Rattle.line_steps.specs.declared.Listed.{Listed}
-use Rattle.line_steps.specs.declared.Listed.the-variants as listed
+use Rattle.line_steps.specs.declared.EntryKind.{EntryKind}
+use Rattle.line_steps.specs.declared.EntryKind.the-variants as kind
 use Rattle.table_lines.specs.Walks.{nextFbTypeText}
 use Rattle.table_lines.proofs.Walking.{Falls}
 
@@ -53,15 +53,15 @@ module _ (f : List ℕ) (p : Place) where
       go (refused g) e = absurd (let z : _≡_ {A = ℕ} 0 1 = cc in omega arith)
       go (found q) e = step-count line (cut f q) t (through (stepOf line (cut f q) t) e)
 
-  pub falls : (l : Listed) → Falls (nextLineAt l f p)
-  falls listed.Tasks i t u l e = falls-by task _ t u l e
-  falls listed.Programs i t u l e = falls-by program _ t u l e
-  falls listed.Fields i t u l e = falls-by field _ t u l e
-  falls listed.Arrays i t u l e = falls-by array _ t u l e
-  falls listed.UserFbs i t u l e = falls-by userFb _ t u l e
-  falls listed.Constants i t u l e = falls-by (constant (byPlace p)) _ t u l e
-  falls listed.Functions i t u l e = falls-by function _ t u l e
-  falls listed.Lines i t u l e = let k = behind _ (debugStepAt f p line t) e in lines-fall t u (k .0) (k .1)
+  pub falls : (l : EntryKind) → Falls (nextLineAt l f p)
+  falls kind.Tasks i t u l e = falls-by task _ t u l e
+  falls kind.Programs i t u l e = falls-by program _ t u l e
+  falls kind.Fields i t u l e = falls-by field _ t u l e
+  falls kind.Arrays i t u l e = falls-by array _ t u l e
+  falls kind.UserFbs i t u l e = falls-by userFb _ t u l e
+  falls kind.Constants i t u l e = falls-by (constant (byPlace p)) _ t u l e
+  falls kind.Functions i t u l e = falls-by function _ t u l e
+  falls kind.Lines i t u l e = let k = behind _ (debugStepAt f p line t) e in lines-fall t u (k .0) (k .1)
 
   pub fb-types-fall : Falls (nextFbTypeText f p)
   fb-types-fall i t u l e = let k = behind _ (nextFbTypeAt f p t) e in go (stepIn f p fbType t) refl (k .1)

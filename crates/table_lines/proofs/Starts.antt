@@ -45,7 +45,7 @@ use Rattle.record.specs.Starts.{tasksStartIn, programsStartIn, fbTypesStartIn, 
 use Rattle.entry_lines.specs.Lines.{taskLine, programLine, fbTypeLine, fieldLine, arrayLine, userFbLine, constantLine, functionLine, lineLine}
 use Rattle.listing.specs.Listing.{each, indexedFrom, fbTypeLines}
 use Rattle.line_steps.specs.Steps.{lined}
-use Rattle.line_steps.specs.declared.Listed.the-variants as listed
+use Rattle.line_steps.specs.declared.EntryKind.the-variants as kind
 use Rattle.table_lines.specs.Walks.{onStep, walkText, entriesText, linesStartIn, fbEntriesText}
 use Rattle.table_lines.specs.Tables.{textOf, tasksText, programsText, fbTypesText, arraysText, userFbsText, constantsText, functionsText, linesText}
 use Rattle.table_lines.proofs.Texts.{each-indexed, linesOf, driven-text, read-there, start-text}
@@ -72,33 +72,33 @@ module _ (f : List ℕ) (p : Place) (start : TypeTables → Table) (walk : Table
   types-by h (some c) = h
 
 module _ (f : List ℕ) (r : Container) where
-  pub tasks-start : textOf (tasksStartIn f r) (entriesText listed.Tasks f (r .header .directory .tasks)) ≡ tasksText f r
+  pub tasks-start : textOf (tasksStartIn f r) (entriesText kind.Tasks f (r .header .directory .tasks)) ≡ tasksText f r
   tasks-start =
       let p = r .header .directory .tasks in
       start-text f p taskTable task (λ t. taskEntries (taskCounts t)) (λ t. t .tasks) (λ i. taskLine) _ (λ t. each-indexed 0 taskLine (t .tasks))
       (λ t e h. let k = item-got (taskTable (cut f p)) t h in task-table.laws .tasks (cut f p) t (k .0) (k .1))
 
-  pub programs-start : textOf (programsStartIn f r) (entriesText listed.Programs f (r .header .directory .tasks)) ≡ programsText f r
+  pub programs-start : textOf (programsStartIn f r) (entriesText kind.Programs f (r .header .directory .tasks)) ≡ programsText f r
   programs-start =
       let p = r .header .directory .tasks in
       start-text f p taskTable program (λ t. programEntries (taskCounts t)) (λ t. t .programs) (λ i. programLine) _ (λ t. each-indexed 0 programLine (t .programs))
       (λ t e h. let k = item-got (taskTable (cut f p)) t h in task-table.laws .programs (cut f p) t (k .0) (k .1))
 
-  pub arrays-start : textOf (arraysStartIn f r) (entriesText listed.Arrays f (r .header .directory .types)) ≡ arraysText f r
+  pub arrays-start : textOf (arraysStartIn f r) (entriesText kind.Arrays f (r .header .directory .types)) ≡ arraysText f r
   arrays-start =
       let p = r .header .directory .types in
-      types-by f p arraysStart (entriesText listed.Arrays f p) _
+      types-by f p arraysStart (entriesText kind.Arrays f p) _
       (start-text f p typeTables array arraysStart (λ t. t .arrays) arrayLine _ (λ t. refl) (λ t e h. type-section.laws .arrays (cut f p) t h))
       (r .types)
 
-  pub user-fbs-start : textOf (userFbsStartIn f r) (entriesText listed.UserFbs f (r .header .directory .types)) ≡ userFbsText f r
+  pub user-fbs-start : textOf (userFbsStartIn f r) (entriesText kind.UserFbs f (r .header .directory .types)) ≡ userFbsText f r
   user-fbs-start =
       let p = r .header .directory .types in
-      types-by f p userFbsStart (entriesText listed.UserFbs f p) _
+      types-by f p userFbsStart (entriesText kind.UserFbs f p) _
       (start-text f p typeTables userFb userFbsStart (λ t. t .userFbs) (λ i. userFbLine) _ (λ t. each-indexed 0 userFbLine (t .userFbs)) (λ t e h. type-section.laws .userFbs (cut f p) t h))
       (r .types)
 
-  pub functions-start : textOf (functionsStartIn f r) (entriesText listed.Functions f (r .header .directory .code)) ≡ functionsText f r
+  pub functions-start : textOf (functionsStartIn f r) (entriesText kind.Functions f (r .header .directory .code)) ≡ functionsText f r
   functions-start =
       let p = r .header .directory .code in
       let n = r .header .runtime .functions in
@@ -111,26 +111,26 @@ abbrev linesLines : Tables Place → List ℕ
 linesLines t = each lineLine (t .lines)
 
 module _ (f : List ℕ) (p : Place) where
-  lines-there : textOf (startsAt f p >>= λ t. found (t .lines)) (entriesText listed.Lines f p) ≡ textOf (debugTablesAt f p) linesLines
+  lines-there : textOf (startsAt f p >>= λ t. found (t .lines)) (entriesText kind.Lines f p) ≡ textOf (debugTablesAt f p) linesLines
   lines-there = go (startsAt f p) refl
     where
-      go : (x : Got DebugTables) → startsAt f p ≡ x → textOf (x >>= λ t. found (t .lines)) (entriesText listed.Lines f p) ≡ textOf (debugTablesAt f p) linesLines
+      go : (x : Got DebugTables) → startsAt f p ≡ x → textOf (x >>= λ t. found (t .lines)) (entriesText kind.Lines f p) ≡ textOf (debugTablesAt f p) linesLines
       go (refused g) e = ap (λ x. textOf x linesLines) (tables-refused f p (sym e))
       go (found u) e =
           let k = tables-stand f p (sym e) in
           let w = debug-walks.laws .walks f p (k .tables) (k .reads) in
           let z : w .starts ≡ u = same-found (sym (w .started) ∙ e) in
           let t = w .starts .lines in
-          ap (λ (v : DebugTables). entriesText listed.Lines f p (v .lines)) (sym z)
+          ap (λ (v : DebugTables). entriesText kind.Lines f p (v .lines)) (sym z)
           ∙ driven-text (debugStepAt f p line) (λ i. lineLine) 0 (t .count) t (k .tables .lines) (w .lines (t .count) (omega arith))
           ∙ sym (each-indexed 0 lineLine (k .tables .lines))
           ∙ ap (λ x. textOf x linesLines) (sym (k .reads))
 
-  lines-by : (x : Option DebugCounts) → textOf (debugStartsBy f p x >>= λ t. found (t .lines)) (entriesText listed.Lines f p) ≡ textOf (debugBy (byPlace p) f p x) linesLines
-  lines-by none = absent-text (leb (length f) limit) tooLong noDebug (λ t. found (t .lines)) (entriesText listed.Lines f p) linesLines
+  lines-by : (x : Option DebugCounts) → textOf (debugStartsBy f p x >>= λ t. found (t .lines)) (entriesText kind.Lines f p) ≡ textOf (debugBy (byPlace p) f p x) linesLines
+  lines-by none = absent-text (leb (length f) limit) tooLong noDebug (λ t. found (t .lines)) (entriesText kind.Lines f p) linesLines
   lines-by (some c) = lines-there
 
-pub lines-start : (f : List ℕ) (r : Container) → textOf (linesStartIn f r) (entriesText listed.Lines f (r .header .directory .debug)) ≡ linesText f r
+pub lines-start : (f : List ℕ) (r : Container) → textOf (linesStartIn f r) (entriesText kind.Lines f (r .header .directory .debug)) ≡ linesText f r
 unfolding debugIn
 lines-start f r = lines-by f (r .header .directory .debug) (r .debug)
 
@@ -155,7 +155,7 @@ module _ (f : List ℕ) where
         let p = r .header .directory .constants in
         ap (λ (x : Got (List (Constant (List ℕ)))). textOf x (indexedFrom 0 constantLine)) (constants-at f p) ∙ text-placed (poolAt f p)
 
-    pub constants-start : textOf (constantsStartIn f r) (entriesText listed.Constants f (r .header .directory .constants)) ≡ constantsText f r
+    pub constants-start : textOf (constantsStartIn f r) (entriesText kind.Constants f (r .header .directory .constants)) ≡ constantsText f r
     constants-start =
         let p = r .header .directory .constants in
         start-text f p (constants (byPlace p)) (constant (byPlace p)) (λ cs. record { at = 2; count = length cs }) (λ cs. cs) (placedLine f) (indexedFrom 0 (placedLine f)) (λ cs. refl)

@@ -1,4 +1,4 @@
--- A loop that puts the lines of a walk's entries: what is put and what the rest of the walk gives is the whole text.
+-- A loop that writes the lines of a walk's entries: what is written and what the rest of the walk gives are the whole text.
 use Prim.Native.Nat.{ℕ, zero, suc, _+_, _-_, _≤_, _<_}
 use mathlib.Core.Path.{_≡_, refl, sym, ap, _∙_}
 use mathlib.Core.List.{List, [], _++_, append-nil, append-assoc}
@@ -7,18 +7,18 @@ use native.Mathlib.Numerals.{add-one}
 use lib.ListN.{length, take}
 use Rattle.reading.specs.Places.{Next, ends, faulty, entry}
 use Rattle.reading.specs.declared.Table.{Table}
-use Rattle.text.specs.Text.{Wrote, Puts}
-use Rattle.text.specs.declared.Put.the-variants as put
-use Rattle.text.proofs.Putting.{wrote-none, wrote-then}
-use Rattle.text.proofs.Fitting.{puts-none, puts-wrote, puts-as, puts-stop, wrote-puts}
+use Rattle.lent.specs.Output.{Unchanged, Wrote, PutsRestFree}
+use Rattle.lent.specs.declared.Put.the-variants as put
+use Rattle.lent.proofs.Writing.{wrote-none, wrote-then}
+use Rattle.lent.proofs.Fitting.{free-none, free-wrote, free-as, free-stop, wrote-free}
 use Rattle.line_steps.proofs.Stepping.{NoEntry}
 use Rattle.table_lines.specs.Walks.{onStep, walkText}
 
--- an entry that is answered is one less to come
+-- an entry that is given is one less to come
 abbrev pub Falls : (ℕ → Table → Next (List ℕ)) → Type 0
 Falls step = (i : ℕ) (t u : Table) (l : List ℕ) → step i t ≡ entry l u → u .count ≡ t .count - 1
 
--- the text of a walk that answers no entry, and of one that does
+-- the text of a walk that gives no entry, and of one that does
 module _ (i : ℕ) (step : ℕ → Table → Next (List ℕ)) (t : Table) where
   text-empty : t .count ≡ 0 → walkText i step (t .count) t ≡ []
   unfolding walkText
@@ -42,8 +42,8 @@ module _ (i : ℕ) (step : ℕ → Table → Next (List ℕ)) (t : Table) where
       rw (e, m, add-one)
 
 -- a line that does not fit, and the buffer is as it was
-pub line-left : {b c l : List ℕ} {at : ℕ} → length b < at + length l → c ≡ b → Puts b at l c put.NoRoom
-line-left {b} {c} {l} {at} h e = puts-none b at l h (ap (take at) e)
+pub line-left : {b c l : List ℕ} {at : ℕ} → length b < at + length l → Unchanged b c → PutsRestFree b at l c put.NoRoom
+line-left {b} {c} {l} {at} h e = free-none b at l h (ap (take at) e)
 
 -- A loop over a walk: the buffer was `before` and is `after`, the text so far ends at `next`, the next entry has the index i, and `rest` is still
 -- to come
@@ -57,15 +57,15 @@ module _ {step : ℕ → Table → Next (List ℕ)} {before : List ℕ} {at : �
   left-start h e = record { put = []; wrote = wrote-none before at h; all = e }
 
   module _ {after : List ℕ} {i next : ℕ} {rest : Table} (l : Left step before at whole after i next rest) where
-    left-done : walkText i step (rest .count) rest ≡ [] → Puts before at whole after (put.At next)
-    left-done e = rw (l .all, e, append-nil) (puts-wrote (l .wrote))
+    left-done : walkText i step (rest .count) rest ≡ [] → PutsRestFree before at whole after (put.At next)
+    left-done e = rw (l .all, e, append-nil) (free-wrote (l .wrote))
 
     -- no entry is left
-    pub left-end : rest .count ≤ 0 → Puts before at whole after (put.At next)
+    pub left-end : rest .count ≤ 0 → PutsRestFree before at whole after (put.At next)
     left-end h = left-done (text-empty i step rest (omega arith))
 
-    -- a step that answers none
-    pub left-none : NoEntry (step i rest) → Puts before at whole after (put.At next)
+    -- a step that gives none
+    pub left-none : NoEntry (step i rest) → PutsRestFree before at whole after (put.At next)
     left-none h = left-done (text-none i step rest (rest .count) h)
 
     module _ {line : List ℕ} {u : Table} (h : 0 < rest .count) (e : step i rest ≡ entry line u) where
@@ -73,10 +73,10 @@ module _ {step : ℕ → Table → Next (List ℕ)} {before : List ℕ} {at : �
       left-all = l .all ∙ rw (text-more i step rest (rest .count) h e) (sym (append-assoc (l .put) line _))
 
       -- an entry, and there is no room for its line, which is a part of the whole
-      pub left-full : {c : List ℕ} → Puts after next line c put.NoRoom → Puts before at whole c put.NoRoom
-      left-full p = puts-as (sym left-all) (puts-stop _ (wrote-puts (l .wrote) p))
+      pub left-full : {c : List ℕ} → PutsRestFree after next line c put.NoRoom → PutsRestFree before at whole c put.NoRoom
+      left-full p = free-as (sym left-all) (free-stop _ (wrote-free (l .wrote) p))
 
-      -- an entry, and its line is put
+      -- an entry, and its line is written
       pub left-more : {c : List ℕ} {q : ℕ} → Falls step → Wrote after next line c q → Left step before at whole c (i + 1) q u
       left-more falls w =
           let n = falls i rest u line e in

@@ -39,10 +39,10 @@ lines-own f r (some t) e =
     ap (λ x. debugLine (debugCounts (some t)) ++ textOf x (λ u. each lineLine (u .lines))) (k .first)
     ∙ ap (λ (u : Tables (List ℕ)). debugLine (debugCounts (some t)) ++ each lineLine (u .lines)) z
 
-listed : (hash : List ℕ → List ℕ) (f : List ℕ) (l : Loaded) → load hash f ≡ found l → fileText f (recordOf l) ≡ listingOf (load hash f)
-listed hash f l e =
+text-is-listing : (hash : List ℕ → List ℕ) (f : List ℕ) (l : Loaded) → load hash f ≡ found l → fileText f (recordOf l) ≡ listingOf (load hash f)
+text-is-listing hash f l e =
     let k = own hash f l e in
     rw (e, types-own f (recordOf l) (l .types) (k .types), lines-own f (recordOf l) (l .debug) (k .debug), k .tasks, k .constants, k .code)
 
 pub laws : Laws
-laws = record { listed = listed }
+laws = record { text-is-listing = text-is-listing }

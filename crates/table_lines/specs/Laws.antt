@@ -10,4 +10,4 @@ use Rattle.table_lines.specs.Whole.{fileText}
 
 -- for any hash
 pub record Laws : Type 0 where
-  pub listed : (hash : List ℕ → List ℕ) (f : List ℕ) (l : Loaded) → load hash f ≡ found l → fileText f (recordOf l) ≡ listingOf (load hash f)
+  pub text-is-listing : (hash : List ℕ → List ℕ) (f : List ℕ) (l : Loaded) → load hash f ≡ found l → fileText f (recordOf l) ≡ listingOf (load hash f)

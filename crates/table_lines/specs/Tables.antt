@@ -1,5 +1,5 @@
--- The text of each table of a file, over any file and record: the lines of its entries in their order (document 01, "Mill file M", "Fields: .."),
--- and no text where the section is absent or refused.
+-- The text of each table of a file, for any file and record: the lines of its entries (document 01, "Mill file M": "entries in file order"), and no
+-- text if the section is absent or refused.
 use Prim.Native.Nat.{ℕ}
 use mathlib.Core.List.{List, []}
 use Rattle.reading.specs.Answer.{Got, refused, found}
@@ -35,6 +35,6 @@ constantsText f r = textOf (constantsIn (λ p. byBytes) f r) λ cs. indexedFrom 
 abbrev pub functionsText : List ℕ → Container → List ℕ
 functionsText f r = textOf (codeIn f r) λ c. each functionLine (c .functions)
 
--- of the debug tables only lines are listed
+-- "of the debug tables only lines are listed"
 abbrev pub linesText : List ℕ → Container → List ℕ
 linesText f r = textOf (debugIn byPlace f r) λ t. each lineLine (t .lines)

@@ -1,4 +1,4 @@
--- The text of a whole file from the texts of its tables, over any file and record: as `lister` puts them.
+-- The text of a whole file from the texts of its tables, for any file and record, in the order of the listing.
 use Prim.Native.Nat.{ℕ}
 use mathlib.Core.List.{List, _++_}
 use Rattle.format.specs.Record.{Container}

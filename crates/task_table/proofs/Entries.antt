@@ -21,10 +21,11 @@ use Rattle.base.specs.Small.{taskTypeNumber, taskTypeOf}
 use Rattle.base.specs.declared.task_type.TaskType.{TaskType}
 use Rattle.base.specs.declared.task_type.TaskType.the-variants as kind
 use Rattle.base.proofs.Bytes.{words-at}
+use Rattle.task_table.specs.Lookups.{taskEntrySize, programInstanceEntrySize}
 
 -- Tasks
 
-pub task-needs : Needs 32 task
+pub task-needs : Needs taskEntrySize task
 unfolding task
 task-needs =
     needs-bind (fixed-number 2) λ i.
@@ -38,7 +39,7 @@ task-needs =
     needs-bind (fixed-number 2) λ o.
     needs-bind (fixed-bytes 4) λ r. needs-none _
 
-pub task-width : Width 32 task
+pub task-width : Width taskEntrySize task
 unfolding task
 task-width =
     width-bind (width-number 2) λ i.
@@ -83,9 +84,9 @@ fieldsAt s at =
       reserved = take 4 (drop (at + 28) s);
     }
 
-module _ (s : List ℕ) (at : ℕ) (h : at + 32 ≤ length s) where
+module _ (s : List ℕ) (at : ℕ) (h : at + taskEntrySize ≤ length s) where
   -- all its bytes are read before its type is looked at
-  task-head : task (drop at s) ≡ (check (leb (leAt 1 s (at + 4)) 2) (invalidTaskType (leAt 1 s (at + 4))) >> give (fieldsAt s at)) (drop (at + 32) s)
+  task-head : task (drop at s) ≡ (check (leb (leAt 1 s (at + 4)) 2) (invalidTaskType (leAt 1 s (at + 4))) >> give (fieldsAt s at)) (drop (at + taskEntrySize) s)
   unfolding task fieldsAt
   task-head =
       rw (
@@ -98,7 +99,7 @@ module _ (s : List ℕ) (at : ℕ) (h : at + 32 ≤ length s) where
         number-at 8 s (at + 16) (at + 24) (omega arith) (omega arith),
         number-at 2 s (at + 24) (at + 26) (omega arith) (omega arith),
         number-at 2 s (at + 26) (at + 28) (omega arith) (omega arith),
-        bytes-at 4 s (at + 28) (at + 32) (omega arith) h,
+        bytes-at 4 s (at + 28) (at + taskEntrySize) (omega arith) h,
       )
 
   -- a type that is refused
@@ -110,10 +111,10 @@ module _ (s : List ℕ) (at : ℕ) (h : at + 32 ≤ length s) where
       go false i e = let z : f ≡ invalidTaskType (leAt 1 s (at + 4)) = cc in rw (task-head, i, z)
 
   -- a type that is known
-  pub task-whole : (k : TaskType) → taskTypeNumber k ≡ leAt 1 s (at + 4) → task (drop at s) ≡ got (fieldsAt s at) (drop (at + 32) s)
+  pub task-whole : (k : TaskType) → taskTypeNumber k ≡ leAt 1 s (at + 4) → task (drop at s) ≡ got (fieldsAt s at) (drop (at + taskEntrySize) s)
   task-whole k e = rw (task-head, ← e) (known k)
     where
-      known : (k : TaskType) → (check (leb (taskTypeNumber k) 2) (invalidTaskType (taskTypeNumber k)) >> give (fieldsAt s at)) (drop (at + 32) s) ≡ got (fieldsAt s at) (drop (at + 32) s)
+      known : (k : TaskType) → (check (leb (taskTypeNumber k) 2) (invalidTaskType (taskTypeNumber k)) >> give (fieldsAt s at)) (drop (at + taskEntrySize) s) ≡ got (fieldsAt s at) (drop (at + taskEntrySize) s)
       known kind.Cyclic = refl
       known kind.Event = refl
       known kind.Freewheeling = refl
@@ -133,7 +134,7 @@ type-known v n e = go (leb v 2) e
 
 -- Program instances
 
-pub program-fixed : Fixed 16 program
+pub program-fixed : Fixed programInstanceEntrySize program
 unfolding program
 program-fixed =
     fixed-bind (fixed-number 2) λ i.
@@ -157,7 +158,7 @@ program-local =
     local-bind (local-number 2) λ m.
     local-bind (local-number 2) λ u. local-give _
 
-pub program-whole : (s : List ℕ) (at : ℕ) → at + 16 ≤ length s → program (drop at s)
+pub program-whole : (s : List ℕ) (at : ℕ) → at + programInstanceEntrySize ≤ length s → program (drop at s)
     ≡ got
     (record {
       instance = leAt 2 s at;
@@ -169,7 +170,7 @@ pub program-whole : (s : List ℕ) (at : ℕ) → at + 16 ≤ length s → progr
       fbInstanceCount = leAt 2 s (at + 12);
       initFunction = leAt 2 s (at + 14);
     })
-    (drop (at + 16) s)
+    (drop (at + programInstanceEntrySize) s)
 unfolding program
 program-whole s at h =
     rw (
@@ -180,5 +181,5 @@ program-whole s at h =
       number-at 2 s (at + 8) (at + 10) (omega arith) (omega arith),
       number-at 2 s (at + 10) (at + 12) (omega arith) (omega arith),
       number-at 2 s (at + 12) (at + 14) (omega arith) (omega arith),
-      number-at 2 s (at + 14) (at + 16) (omega arith) h,
+      number-at 2 s (at + 14) (at + programInstanceEntrySize) (omega arith) h,
     )

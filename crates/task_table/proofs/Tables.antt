@@ -22,37 +22,37 @@ use Rattle.format.specs.Record.{TaskCounts, taskCounts}
 use Rattle.format.specs.Lookups.{readAt}
 use Rattle.format.proofs.Answers.{never, same-found, refused-then, item-got}
 use Rattle.base.proofs.FileWalks.{opened, walk-gives-from}
-use Rattle.task_table.specs.Lookups.{taskCountsInside, taskEntries, programEntries, taskInside, programInside, tasksAt, programsAt, nextTaskAt, nextProgramAt}
+use Rattle.task_table.specs.Lookups.{taskTableHeaderSize, taskEntrySize, programInstanceEntrySize, taskCountsInside, taskEntries, programEntries, taskInside, programInside, tasksAt, programsAt, nextTaskAt, nextProgramAt}
 use Rattle.task_table.specs.Laws.{Laws}
 use Rattle.task_table.proofs.Entries.{task-width, task-local, program-fixed, program-local}
 
 -- Reading the section
 
-pub table-needs : Needs 6 taskTable
+pub table-needs : Needs taskTableHeaderSize taskTable
 unfolding taskTable
 table-needs = needs-bind (fixed-number 2) λ n. needs-bind (fixed-number 2) λ m. needs-bind (fixed-number 2) λ g. needs-none _
 
-module _ (s : List ℕ) (n m g : ℕ) (h : 6 ≤ length s) (i : n ≡ leAt 2 s 0) (j : m ≡ leAt 2 s 2) (k : g ≡ leAt 2 s 4) where
+module _ (s : List ℕ) (n m g : ℕ) (h : taskTableHeaderSize ≤ length s) (i : n ≡ leAt 2 s 0) (j : m ≡ leAt 2 s 2) (k : g ≡ leAt 2 s 4) where
   table-head : taskTable s
-      ≡ next (many n task (drop 6 s)) (λ ts. λ x. next (many m program x) (λ ps. give (record { sharedGlobals = g; tasks = ts; programs = ps })))
+      ≡ next (many n task (drop taskTableHeaderSize s)) (λ ts. λ x. next (many m program x) (λ ps. give (record { sharedGlobals = g; tasks = ts; programs = ps })))
   unfolding taskTable
-  table-head = rw (number-at 2 s 0 2 refl (omega arith), number-at 2 s 2 4 refl (omega arith), number-at 2 s 4 6 refl h, i, j, k)
+  table-head = rw (number-at 2 s 0 2 refl (omega arith), number-at 2 s 2 4 refl (omega arith), number-at 2 s 4 taskTableHeaderSize refl h, i, j, k)
 
   -- a task that is refused
-  pub table-stop : (f : Fault) → many n task (drop 6 s) ≡ fault f → refused f ≡ taskCountsInside s
+  pub table-stop : (f : Fault) → many n task (drop taskTableHeaderSize s) ≡ fault f → refused f ≡ taskCountsInside s
   table-stop f e = rw (table-head, e)
 
   -- the tasks reach to p
-  module _ (p : ℕ) (w : Goes (many n task) s 6 (onTo p)) where
-    pub table-short : length s - p < 16 * m → refused shortInput ≡ taskCountsInside s
+  module _ (p : ℕ) (w : Goes (many n task) s taskTableHeaderSize (onTo p)) where
+    pub table-short : length s - p < programInstanceEntrySize * m → refused shortInput ≡ taskCountsInside s
     table-short l = rw (table-head, w .1 .1, needs-at (fixed-many m program-fixed .short) s p l)
 
-    pub table-whole : 16 * m ≤ length s - p → found (record { sharedGlobals = g; tasks = n; programs = m }) ≡ taskCountsInside s
+    pub table-whole : programInstanceEntrySize * m ≤ length s - p → found (record { sharedGlobals = g; tasks = n; programs = m }) ≡ taskCountsInside s
     table-whole l =
         let room = w .0 in
         let q = fixed-at (fixed-many m program-fixed) s p (omega arith) in
-        let a = many-length task n (drop 6 s) (w .1 .0) (drop p s) (w .1 .1) in
-        let b = many-length program m (drop p s) (q .0) (drop (p + 16 * m) s) (q .1) in
+        let a = many-length task n (drop taskTableHeaderSize s) (w .1 .0) (drop p s) (w .1 .1) in
+        let b = many-length program m (drop p s) (q .0) (drop (p + programInstanceEntrySize * m) s) (q .1) in
         rw (table-head, w .1 .1, q .1, a, b)
 
 -- The tables of a section that reads
@@ -61,9 +61,9 @@ pub record Readable (s : List ℕ) (t : TaskTable) : Type 0 where
   pub tasks : Holds task s (taskEntries (taskCounts t)) (t .tasks)
   pub programs : Holds program s (programEntries (taskCounts t)) (t .programs)
 
--- three numbers of two bytes each take six
-six : {n m g : ℕ} (s x y z : List ℕ) → u16 s ≡ got n x → u16 x ≡ got m y → u16 y ≡ got g z → (z ≡ drop 6 s) × (6 ≤ length s)
-six {n} {m} {g} s x y z e f h =
+-- behind the three numbers of the header
+after-header : {n m g : ℕ} (s x y z : List ℕ) → u16 s ≡ got n x → u16 x ≡ got m y → u16 y ≡ got g z → (z ≡ drop taskTableHeaderSize s) × (taskTableHeaderSize ≤ length s)
+after-header {n} {m} {g} s x y z e f h =
     let a = width-number 2 .takes s n x e in
     let b = width-number 2 .takes x m y f in
     let c = width-number 2 .takes y g z h in
@@ -78,13 +78,13 @@ readable s t rest e =
     let c = both (u16 (b .middle)) (b .second) in
     let d = both (many (a .item) task (c .middle)) (c .second) in
     let p = both (many (b .item) program (d .middle)) (d .second) in
-    let h = six s (a .middle) (b .middle) (c .middle) (a .first) (b .first) (c .first) in
-    let k = reaches task (a .item) 6 s (c .middle) (d .middle) (d .item) (h .0) (h .1) (d .first) task-width in
+    let h = after-header s (a .middle) (b .middle) (c .middle) (a .first) (b .first) (c .first) in
+    let k = reaches task (a .item) taskTableHeaderSize s (c .middle) (d .middle) (d .item) (h .0) (h .1) (d .first) task-width in
     let all : record { sharedGlobals = c .item; tasks = d .item; programs = p .item } ≡ t = cc in
     subst (λ (v : TaskTable). Readable s v) all
     (record {
-      tasks = holds-at task (a .item) 6 s (c .middle) (d .middle) (d .item) (h .0) (h .1) (d .first);
-      programs = holds-at program (b .item) (6 + 32 * length (d .item)) s (d .middle) (p .middle) (p .item) (k .0) (k .1) (p .first);
+      tasks = holds-at task (a .item) taskTableHeaderSize s (c .middle) (d .middle) (d .item) (h .0) (h .1) (d .first);
+      programs = holds-at program (b .item) (taskTableHeaderSize + taskEntrySize * length (d .item)) s (d .middle) (p .middle) (p .item) (k .0) (k .1) (p .first);
     })
 
 -- Each answer from the counts
@@ -132,18 +132,18 @@ module _ (s : List ℕ) (c : TaskCounts) (e : found c ≡ taskCountsInside s) wh
 
     -- the task at an index stands behind the header and those before it
     module _ (l : k < c .tasks) where
-      pub task-fits : 6 + 32 * k + 32 ≤ length s
+      pub task-fits : taskTableHeaderSize + taskEntrySize * k + taskEntrySize ≤ length s
       task-fits = holds-fits task s (taskEntries c) (counted .table .tasks) (counted .tasks) task-width (omega arith) k l
 
-      pub task-found : {v x : Step Task} → v ≡ x → Reads task s (6 + 32 * k) v → answerBy x ≡ taskInside s k
+      pub task-found : {v x : Step Task} → v ≡ x → Reads task s (taskTableHeaderSize + taskEntrySize * k) v → answerBy x ≡ taskInside s k
       task-found d g = rw (counted .reads) (holds-found task s (taskEntries c) (counted .table .tasks) (counted .tasks) task-width k l noEntry d g)
 
     -- the program at an index stands behind the tasks and the programs before it
     module _ (l : k < c .programs) where
-      pub program-fits : 6 + 32 * c .tasks + 16 * k + 16 ≤ length s
+      pub program-fits : taskTableHeaderSize + taskEntrySize * c .tasks + programInstanceEntrySize * k + programInstanceEntrySize ≤ length s
       program-fits = holds-fits program s (programEntries c) (counted .table .programs) (counted .programs) (fixed-width program-fixed) (omega arith) k l
 
-      pub program-found : (a : Program) (t : List ℕ) → program (drop (6 + 32 * c .tasks + 16 * k) s) ≡ got a t → found a ≡ programInside s k
+      pub program-found : (a : Program) (t : List ℕ) → program (drop (taskTableHeaderSize + taskEntrySize * c .tasks + programInstanceEntrySize * k) s) ≡ got a t → found a ≡ programInside s k
       program-found a t d =
           rw (counted .reads) (sym (at-picked program (holds-width program s (programEntries c) (counted .table .programs) (counted .programs) (fixed-width program-fixed) k l) a t d noEntry))
 

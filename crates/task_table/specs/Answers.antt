@@ -84,5 +84,3 @@ taskCountsIn c = record { sharedGlobals = c .«shared_globals_size»; tasks = c 
 abbrev pub taskCountsFrom : TaskTableAnswer → Got kept.TaskCounts
 taskCountsFrom (tableAnswer.Refused e) = refused (faultOf e)
 taskCountsFrom (tableAnswer.Counts c) = found (taskCountsIn c)
-
--- Items passed over

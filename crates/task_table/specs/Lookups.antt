@@ -10,16 +10,27 @@ use Rattle.format.specs.Record.{TaskCounts, taskCounts}
 use Rattle.format.specs.Lookups.{readAt, taskOf, programOf}
 use Rattle.base.specs.Section.{stepIn}
 
--- what the section's reader yields
+-- Sizes in bytes: the two counts with the shared globals size, a task, a program instance
+
+abbrev pub taskTableHeaderSize : ℕ
+taskTableHeaderSize = 6
+
+abbrev pub taskEntrySize : ℕ
+taskEntrySize = 32
+
+abbrev pub programInstanceEntrySize : ℕ
+programInstanceEntrySize = 16
+
+-- what the section's reader answers
 abbrev pub taskCountsInside : List ℕ → Got TaskCounts
 taskCountsInside s = itemOf (taskTable s) >>= λ t. found (taskCounts t)
 
 -- the tasks start behind the header, and the programs behind the tasks
 abbrev pub taskEntries : TaskCounts → Table
-taskEntries c = record { at = 6; count = c .tasks }
+taskEntries c = record { at = taskTableHeaderSize; count = c .tasks }
 
 abbrev pub programEntries : TaskCounts → Table
-programEntries c = record { at = 6 + 32 * c .tasks; count = c .programs }
+programEntries c = record { at = taskTableHeaderSize + taskEntrySize * c .tasks; count = c .programs }
 
 -- Over the section's bytes
 
@@ -35,7 +46,7 @@ tasksOf s = itemOf (taskTable s) >>= λ t. found (taskEntries (taskCounts t))
 abbrev pub programsOf : List ℕ → Got Table
 programsOf s = itemOf (taskTable s) >>= λ t. found (programEntries (taskCounts t))
 
--- Over a file
+-- Over a file and the section's place in it
 
 abbrev pub taskAt : List ℕ → Place → ℕ → Got Task
 taskAt f p i = readAt f p taskTable >>= taskOf i

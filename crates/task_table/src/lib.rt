@@ -1,4 +1,4 @@
-// The task section: three counts, then the tasks, then the program instances.
+// The task section: a header of two counts and the shared globals size, then the tasks, then the program instances.
 ghost use mathlib.Core.Path.{_≡_};
 ghost use Prim.Native.Nat.{_+_, _≤_};
 ghost use lib.ListN.{length, drop};
@@ -9,7 +9,7 @@ ghost use Rattle.format.specs.Tasks.{task, program};
 ghost use Rattle.base.specs.Small.{taskTypeNumber};
 ghost use Rattle.base.specs.Section.{placeIn, startFrom, wayFrom};
 ghost use Rattle.task_table.specs.Answers.{taskIn, taskStep, taskFrom, taskNextFrom, programIn, programFrom, programNextFrom, taskCountsIn, taskCountsFrom};
-ghost use Rattle.task_table.specs.Lookups.{taskCountsInside, taskEntries, programEntries, tasksOf, programsOf, taskInside, programInside, taskAt, programAt, tasksAt, programsAt, nextTaskAt, nextProgramAt};
+ghost use Rattle.task_table.specs.Lookups.{taskEntrySize, programInstanceEntrySize, taskCountsInside, taskEntries, programEntries, tasksOf, programsOf, taskInside, programInside, taskAt, programAt, tasksAt, programsAt, nextTaskAt, nextProgramAt};
 ghost use Rattle.task_table.specs.Laws.{Laws};
 use base::error::ContainerError;
 use base::id_types::FunctionId;
@@ -29,14 +29,14 @@ use reading::u16_at;
 use reading::u32_at;
 use reading::u64_at;
 
-// The counts of tasks and programs and the shared globals size, of two bytes each.
-const HEADER_SIZE: usize = 6;
+// The counts of tasks and programs and the shared globals size, two bytes each.
+const TASK_TABLE_HEADER_SIZE: usize = 6;
 
 const TASK_ENTRY_SIZE: usize = 32;
 
 const PROGRAM_INSTANCE_ENTRY_SIZE: usize = 16;
 
-// A task. The bytes of `reserved`, low byte first, are the reserved bytes.
+// A task. `reserved` holds its four reserved bytes, low byte first.
 pub struct TaskEntry {
     pub task_id: TaskId,
     pub priority: u16,
@@ -104,10 +104,10 @@ pub enum ProgramNext {
     Entry(ProgramInstanceEntry, Table),
 }
 
-// The task of 32 bytes at the place `at` of the section `s`, its type being known.
+// The task at the place `at` of the section `s`, whose type is already read.
 fn task_at(s: &[u8], at: usize, task_type: TaskType) -> TaskEntry
-    requires { ⌜ (at + 32 ≤ length (now s)) × (taskTypeNumber «task_type» ≡ leAt 1 (now s) (at + 4)) ⌝ }
-    ensures { λ r. ⌜ task (drop at (now (s .entry))) ≡ got (taskIn r) (drop (at + 32) (now (s .entry))) ⌝ }
+    requires { ⌜ (at + taskEntrySize ≤ length (now s)) × (taskTypeNumber «task_type» ≡ leAt 1 (now s) (at + 4)) ⌝ }
+    ensures { λ r. ⌜ task (drop at (now (s .entry))) ≡ got (taskIn r) (drop (at + taskEntrySize) (now (s .entry))) ⌝ }
 {
     TaskEntry {
         task_id: TaskId(u16_at(s, at)),
@@ -123,7 +123,7 @@ fn task_at(s: &[u8], at: usize, task_type: TaskType) -> TaskEntry
     }
 }
 
-// The task at the place `at`: its 32 bytes, then its type.
+// The task at the place `at`. All its bytes must be there before its type is checked.
 fn read_task(s: &[u8], at: usize) -> TaskStep
     requires { ⌜ at ≤ length (now s) ⌝ }
     ensures { λ r. ⌜ taskStep r ≡ stepAt task (now (s .entry)) at ⌝ }
@@ -163,8 +163,8 @@ fn skip_tasks(s: &[u8], at: usize, n: usize) -> Walk
 
 // The program instance at the place `at`.
 fn program_at(s: &[u8], at: usize) -> ProgramInstanceEntry
-    requires { ⌜ at + 16 ≤ length (now s) ⌝ }
-    ensures { λ r. ⌜ program (drop at (now (s .entry))) ≡ got (programIn r) (drop (at + 16) (now (s .entry))) ⌝ }
+    requires { ⌜ at + programInstanceEntrySize ≤ length (now s) ⌝ }
+    ensures { λ r. ⌜ program (drop at (now (s .entry))) ≡ got (programIn r) (drop (at + programInstanceEntrySize) (now (s .entry))) ⌝ }
 {
     ProgramInstanceEntry {
         instance_id: InstanceId(u16_at(s, at)),
@@ -178,17 +178,17 @@ fn program_at(s: &[u8], at: usize) -> ProgramInstanceEntry
     }
 }
 
-// The section's reader. Each task is looked at; no program is refused, so that their bytes need only be there.
+// The section's reader. Each task is checked; no program can be refused, so only their bytes must be present.
 pub fn read_from(s: &[u8]) -> TaskTableAnswer
     ensures { λ r. ⌜ taskCountsFrom r ≡ taskCountsInside (now (s .entry)) ⌝ }
 {
-    if s.len() < HEADER_SIZE {
+    if s.len() < TASK_TABLE_HEADER_SIZE {
         return TaskTableAnswer::Refused(ContainerError::ShortInput);
     }
     let tasks = u16_at(s, 0);
     let programs = u16_at(s, 2);
     let shared_globals_size = u16_at(s, 4);
-    match skip_tasks(s, HEADER_SIZE, tasks as usize) {
+    match skip_tasks(s, TASK_TABLE_HEADER_SIZE, tasks as usize) {
         Walk::Refused(e) => TaskTableAnswer::Refused(e),
         Walk::At(p) => {
             if s.len() - p < PROGRAM_INSTANCE_ENTRY_SIZE * (programs as usize) {
@@ -208,17 +208,17 @@ fn task_entries(counts: TaskCounts) -> Table
     ensures { λ r. ⌜ r ≡ taskEntries (taskCountsIn counts) ⌝ }
 {
     Table {
-        at: HEADER_SIZE,
+        at: TASK_TABLE_HEADER_SIZE,
         count: counts.tasks as usize,
     }
 }
 
-// The table of the programs, behind the tasks.
+// The table of the programs, which stands behind the tasks.
 fn program_entries(counts: TaskCounts) -> Table
     ensures { λ r. ⌜ r ≡ programEntries (taskCountsIn counts) ⌝ }
 {
     Table {
-        at: HEADER_SIZE + TASK_ENTRY_SIZE * (counts.tasks as usize),
+        at: TASK_TABLE_HEADER_SIZE + TASK_ENTRY_SIZE * (counts.tasks as usize),
         count: counts.programs as usize,
     }
 }
@@ -233,7 +233,7 @@ fn find_task(s: &[u8], index: u16) -> TaskAnswer
             if counts.tasks <= index {
                 return TaskAnswer::Refused(ContainerError::NoEntry);
             }
-            let at = HEADER_SIZE + TASK_ENTRY_SIZE * (index as usize);
+            let at = TASK_TABLE_HEADER_SIZE + TASK_ENTRY_SIZE * (index as usize);
             match read_task(s, at) {
                 TaskStep::Refused(e) => TaskAnswer::Refused(e),
                 TaskStep::Entry(t, _) => TaskAnswer::Entry(t),
@@ -409,7 +409,7 @@ pub fn next_program(file: &[u8], section: Section, t: Table) -> ProgramNext
     }
 }
 
-// The claims of `specs/Laws.antt` hold. There is no code: the contract makes the check prove them.
+// The claims of `specs/Laws.antt` hold. Empty body: the contract makes the checker prove them.
 pub fn laws_hold()
     ensures { λ _. ⌜ Laws ⌝ }
 {}

@@ -12,7 +12,7 @@ use lib.ListN.{length, getD, List·getD-append, length-append}
 use borrow.Author.Tests.{ltb-true, ltb-false, le-leb}
 use Rattle.text.specs.Text.{digits, decimal, hexes}
 use Rattle.text.specs.Laws.{isDigit, readBehind, readDecimal, Laws}
-use Rattle.text.proofs.Putting.{digits-one, digits-more, hexes-append, hexes-length}
+use Rattle.text.proofs.Parts.{digits-one, digits-more, hexes-append, hexes-length}
 
 a-digit : (d : ℕ) → d < 10 → isDigit (code "0" + d) ≡ true
 a-digit d h = rw (le-leb 48 (48 + d) (omega arith), le-leb (48 + d) 57 (omega arith))

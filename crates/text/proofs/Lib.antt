@@ -1,3 +1,3 @@
 pub mod Laws
-pub mod Putting
+pub mod Parts
 pub mod Fitting

@@ -1,47 +1,24 @@
-// Text in a buffer that the caller lends: numbers in decimal, bytes in hexadecimal, lines of them. A line that fits is put at the place `at`, and
-// the answer is the place behind it; one that does not fit leaves the buffer as it was.
+// Text in a buffer that the caller lends: numbers in decimal, bytes in hexadecimal, lines of them. A line that fits is written at the place `at`,
+// and the place behind it is returned; a line that does not fit leaves the buffer unchanged.
 ghost use Prim.Native.Nat.{_+_, _*_, _/_, _%_, _<_, _≤_};
 ghost use mathlib.Core.Path.{_≡_};
 ghost use mathlib.Core.List.{[], _∷_, _++_};
 ghost use lib.Dec.{leb};
 ghost use lib.ListN.{length};
-ghost use Rattle.text.specs.Text.{ascii, digits, decimal, numbers, hexDigit, hexes, hexOrDash, ended, line, dashLine, bytesLine, Wrote, PutsLine};
+ghost use Rattle.lent.specs.Output.{Wrote, Puts};
+ghost use Rattle.text.specs.Text.{ascii, digits, decimal, numbers, hexDigit, hexes, hexOrDash, ended, line, dashLine, bytesLine};
 ghost use Rattle.text.specs.Laws.{Laws};
-
-// The place behind a text that was put; or it does not fit.
-pub enum Put {
-    NoRoom,
-    At(usize),
-}
+use lent::Put;
+use lent::put_byte;
+use lent::put_bytes;
 
 // The digits of the largest u64.
 const MOST_DIGITS: usize = 20;
 
 // A space and as many digits.
-const MOST_OF_NUMBER: usize = 21;
+const MOST_OF_NUMBER: usize = MOST_DIGITS + 1;
 
-// Putting a text that fits.
-
-fn put_byte(out: &mut [u8], at: usize, byte: u8) -> usize
-    requires { ⌜ at < length (now out) ⌝ }
-    ensures { λ r. ⌜ Wrote (now (out .entry)) at (byte ∷ []) (now (out .exit)) r ⌝ }
-{
-    out[at] = byte;
-    at + 1
-}
-
-pub fn put_bytes(out: &mut [u8], at: usize, bytes: &[u8]) -> usize
-    requires { ⌜ at + length (now bytes) ≤ length (now out) ⌝ }
-    ensures { λ r. ⌜ Wrote (now (out .entry)) at (now (bytes .entry)) (now (out .exit)) r ⌝ }
-{
-    let mut i = 0;
-    let mut next = at;
-    while i < bytes.len() {
-        next = put_byte(out, next, bytes[i]);
-        i += 1;
-    }
-    next
-}
+// Writing a text that fits.
 
 // The decimal digits of n; of more than `most` the last `most`.
 fn put_digits(out: &mut [u8], at: usize, n: u64, most: usize) -> usize
@@ -141,7 +118,7 @@ fn put_ended(out: &mut [u8], at: usize, word: &[u8], ns: &[u64], end: &[u8]) -> 
     put_bytes(out, next, end)
 }
 
-// Whether a text fits. No sum wraps: what is left is counted down step by step.
+// Whether a text fits. No sum can overflow: the room that is left is counted down step by step.
 
 // How many decimal digits n has.
 fn decimal_length(n: u64) -> usize
@@ -194,7 +171,7 @@ fn measured(len: usize, at: usize, word: usize, ns: &[u64], end: usize) -> bool
     numbers_fit(left - end, ns)
 }
 
-// The same, quick where numbers of any length fit.
+// The same, with a quick answer where numbers of any length fit.
 fn fits(len: usize, at: usize, word: usize, ns: &[u64], end: usize) -> bool
     ensures { λ r. ⌜ r ≡ leb (at + (word + length (numbers (now (ns .entry))) + end)) len ⌝ }
 {
@@ -223,24 +200,11 @@ fn hex_length(bytes: &[u8]) -> usize
     2 * bytes.len()
 }
 
-// Putting a text, if it fits.
-
-// A text.
-pub fn put_text(out: &mut [u8], at: usize, text: &[u8]) -> Put
-    ensures { λ r. ⌜ PutsLine (now (out .entry)) at (now (text .entry)) (now (out .exit)) r ⌝ }
-{
-    if out.len() < at {
-        return Put::NoRoom;
-    }
-    if out.len() - at < text.len() {
-        return Put::NoRoom;
-    }
-    Put::At(put_bytes(out, at, text))
-}
+// Writing a line, if it fits.
 
 // A line of a word and numbers.
 pub fn put_line(out: &mut [u8], at: usize, word: &[u8], ns: &[u64]) -> Put
-    ensures { λ r. ⌜ PutsLine (now (out .entry)) at (line (now (word .entry)) (now (ns .entry))) (now (out .exit)) r ⌝ }
+    ensures { λ r. ⌜ Puts (now (out .entry)) at (line (now (word .entry)) (now (ns .entry))) (now (out .exit)) r ⌝ }
 {
     if fits(out.len(), at, word.len(), ns, 1) {
         return Put::At(put_ended(out, at, word, ns, b"\n"));
@@ -248,9 +212,9 @@ pub fn put_line(out: &mut [u8], at: usize, word: &[u8], ns: &[u64]) -> Put
     Put::NoRoom
 }
 
-// A line that ends in a dash, for what is not there.
+// A line that ends in a dash, for a value that is absent.
 pub fn put_dash_line(out: &mut [u8], at: usize, word: &[u8], ns: &[u64]) -> Put
-    ensures { λ r. ⌜ PutsLine (now (out .entry)) at (dashLine (now (word .entry)) (now (ns .entry))) (now (out .exit)) r ⌝ }
+    ensures { λ r. ⌜ Puts (now (out .entry)) at (dashLine (now (word .entry)) (now (ns .entry))) (now (out .exit)) r ⌝ }
 {
     if fits(out.len(), at, word.len(), ns, 3) {
         return Put::At(put_ended(out, at, word, ns, b" -\n"));
@@ -258,10 +222,10 @@ pub fn put_dash_line(out: &mut [u8], at: usize, word: &[u8], ns: &[u64]) -> Put
     Put::NoRoom
 }
 
-// A line that ends in bytes, or in a dash if there are none. What the first test turns away is too long even for an empty word: a
-// space, the digits and the line's end.
+// A line that ends in bytes, or in a dash if there are none. What the first test rejects would not fit even with an empty word: a space, the
+// digits and the line's end.
 pub fn put_bytes_line(out: &mut [u8], at: usize, word: &[u8], ns: &[u64], bytes: &[u8]) -> Put
-    ensures { λ r. ⌜ PutsLine (now (out .entry)) at (bytesLine (now (word .entry)) (now (ns .entry)) (now (bytes .entry))) (now (out .exit)) r ⌝ }
+    ensures { λ r. ⌜ Puts (now (out .entry)) at (bytesLine (now (word .entry)) (now (ns .entry)) (now (bytes .entry))) (now (out .exit)) r ⌝ }
 {
     if out.len() / 2 <= bytes.len() {
         return Put::NoRoom;
@@ -275,7 +239,7 @@ pub fn put_bytes_line(out: &mut [u8], at: usize, word: &[u8], ns: &[u64], bytes:
     Put::NoRoom
 }
 
-// The claims of `specs/Laws.antt` hold. There is no code: the contract makes the check prove them.
+// The claims of `specs/Laws.antt` hold. Empty body: the contract makes the checker prove them.
 pub fn laws_hold()
     ensures { λ _. ⌜ Laws ⌝ }
 {}

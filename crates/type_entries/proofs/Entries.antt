@@ -27,28 +27,29 @@ use Rattle.format.specs.Lookups.{fbTypeHeadOf}
 use Rattle.format.proofs.Answers.{never}
 use Rattle.base.specs.Small.{fieldTypeOf}
 use Rattle.type_entries.specs.Answers.{fbTypeHead, strideChecked, tableAt}
+use Rattle.type_entries.specs.Starts.{countSize, fieldEntrySize, fbTypeHeadSize, arrayDescriptorSize, userFbDescriptorSize}
 
 -- Widths
 
-pub field-needs : Needs 4 field
+pub field-needs : Needs fieldEntrySize field
 unfolding field
 field-needs = needs-bind (fixed-number 1) λ k. needs-bind (fixed-number 1) λ r. needs-bind (fixed-number 2) λ e. needs-none _
 
-pub field-width : Width 4 field
+pub field-width : Width fieldEntrySize field
 unfolding field
 field-width =
     width-bind (width-number 1) λ k.
     width-bind (width-number 1) λ r.
     width-bind (width-number 2) λ e. width-check (leb k 10) (invalidFieldType k) (record { kind = k; extra = e })
 
-fb-type-needs : Needs 4 fbType
+fb-type-needs : Needs fbTypeHeadSize fbType
 unfolding fbType
 fb-type-needs = needs-bind (fixed-number 2) λ i. needs-bind (fixed-number 1) λ n. needs-bind (fixed-number 1) λ r. needs-none _
 
-pub head-needs : Needs 4 fbTypeHead
+pub head-needs : Needs fbTypeHeadSize fbTypeHead
 head-needs x h = rw (fb-type-needs x h)
 
-pub array-needs : Needs 12 array
+pub array-needs : Needs arrayDescriptorSize array
 unfolding array
 array-needs =
     needs-bind (fixed-number 1) λ k.
@@ -57,7 +58,7 @@ array-needs =
     needs-bind (fixed-number 2) λ e.
     needs-bind (fixed-number 4) λ t. needs-none _
 
-pub array-width : Width 12 array
+pub array-width : Width arrayDescriptorSize array
 unfolding array
 array-width =
     width-bind (width-number 1) λ k.
@@ -67,7 +68,7 @@ array-width =
     width-bind (width-number 4) λ t.
     width-check (strideFits k e t) (invalidArrayStride k t) (record { kind = k; elements = n; extra = e; stride = t })
 
-pub user-fb-fixed : Fixed 8 userFb
+pub user-fb-fixed : Fixed userFbDescriptorSize userFb
 unfolding userFb
 user-fb-fixed =
     fixed-bind (fixed-number 2) λ i.
@@ -119,7 +120,7 @@ local-head = local-bind local-fb-type λ b. local-give (fbTypeHeadOf b)
 -- the tables, by what they leave
 module _ (s : List ℕ) (at : ℕ) where
   stays-table : {A : Type 0} {r : Reader (List A)} → Stays s r → Stays s (tableAt at r)
-  stays-table h = stays-bind s h λ xs. stays-local s (local-give (record { at = at + 2; count = length xs }))
+  stays-table h = stays-bind s h λ xs. stays-local s (local-give (record { at = at + countSize; count = length xs }))
 
   pub stays-fb-types : Stays s (tableAt at (counted fbType))
   stays-fb-types = stays-table (stays-counted s (stays-local s local-fb-type))
@@ -143,11 +144,11 @@ module _ {A : Type 0} (a : A) (x : List ℕ) (f : Fault) where
 
 -- Entries at a place, by the numbers that stand there
 
-module _ (s : List ℕ) (at kind extra : ℕ) (h : at + 4 ≤ length s) (k : kind ≡ leAt 1 s at) (e : extra ≡ leAt 2 s (at + 2)) where
-  field-head : field (drop at s) ≡ (check (leb kind 10) (invalidFieldType kind) >> give (record { kind = kind; extra = extra })) (drop (at + 4) s)
+module _ (s : List ℕ) (at kind extra : ℕ) (h : at + fieldEntrySize ≤ length s) (k : kind ≡ leAt 1 s at) (e : extra ≡ leAt 2 s (at + 2)) where
+  field-head : field (drop at s) ≡ (check (leb kind 10) (invalidFieldType kind) >> give (record { kind = kind; extra = extra })) (drop (at + fieldEntrySize) s)
   unfolding field
   field-head =
-      rw (number-at 1 s at (at + 1) refl (omega arith), number-at 1 s (at + 1) (at + 2) (omega arith) (omega arith), number-at 2 s (at + 2) (at + 4) (omega arith) h, k, e)
+      rw (number-at 1 s at (at + 1) refl (omega arith), number-at 1 s (at + 1) (at + 2) (omega arith) (omega arith), number-at 2 s (at + 2) (at + fieldEntrySize) (omega arith) h, k, e)
 
   pub field-stop : (f : Fault) → refused f ≡ fieldTypeOf kind → field (drop at s) ≡ fault f
   field-stop f t = go (decLe kind 10)
@@ -156,10 +157,10 @@ module _ (s : List ℕ) (at kind extra : ℕ) (h : at + 4 ≤ length s) (k : kin
       go (yes i) = never (rw (le-leb kind 10 i) at t)
       go (no i) = let z : f ≡ invalidFieldType kind = cc (rw (lt-leb kind 10 (omega arith)) at t) in rw (field-head, lt-leb kind 10 (omega arith), z)
 
-  pub field-whole : (n : ℕ) → found n ≡ fieldTypeOf kind → field (drop at s) ≡ got (record { kind = n; extra = extra }) (drop (at + 4) s)
+  pub field-whole : (n : ℕ) → found n ≡ fieldTypeOf kind → field (drop at s) ≡ got (record { kind = n; extra = extra }) (drop (at + fieldEntrySize) s)
   field-whole n t = go (decLe kind 10)
     where
-      go : Dec (kind ≤ 10) → field (drop at s) ≡ got (record { kind = n; extra = extra }) (drop (at + 4) s)
+      go : Dec (kind ≤ 10) → field (drop at s) ≡ got (record { kind = n; extra = extra }) (drop (at + fieldEntrySize) s)
       go (yes i) = let z : n ≡ kind = cc (rw (le-leb kind 10 i) at t) in rw (field-head, le-leb kind 10 i, z)
       go (no i) = never (sym (rw (lt-leb kind 10 (omega arith)) at t))
 
@@ -178,29 +179,29 @@ module _ {A B : Type 0} (f : ℕ → B) (q : Reader A) (n : ℕ) (r : Reader B) 
   by-walk {v} {w} d g = by-way w (goes-told (many n q) s to d g)
 
 -- an FB type by its head; a table by its count
-pub head-by-walk : (s : List ℕ) (at id n : ℕ) → at + 4 ≤ length s → id ≡ leAt 2 s at → n ≡ leAt 1 s (at + 2) → {v w : Way} → v ≡ w → Goes (many n field) s (at + 4) v
+pub head-by-walk : (s : List ℕ) (at id n : ℕ) → at + fbTypeHeadSize ≤ length s → id ≡ leAt 2 s at → n ≡ leAt 1 s (at + 2) → {v w : Way} → v ≡ w → Goes (many n field) s (at + fbTypeHeadSize) v
     → Reads fbTypeHead s at (itemBy (record { id = id; fieldCount = n }) w)
 unfolding fbType
 head-by-walk s at id n h i k =
-    by-walk (λ c. record { id = id; fieldCount = c }) field n fbTypeHead s at (at + 4)
+    by-walk (λ c. record { id = id; fieldCount = c }) field n fbTypeHead s at (at + fbTypeHeadSize)
     (rw (
       number-at 2 s at (at + 2) refl (omega arith),
       number-at 1 s (at + 2) (at + 3) (omega arith) (omega arith),
-      number-at 1 s (at + 3) (at + 4) (omega arith) h,
+      number-at 1 s (at + 3) (at + fbTypeHeadSize) (omega arith) h,
       ← i,
       ← k,
-    ) (then-then (many n field (drop (at + 4) s)) (λ fs. give (record { id = id; fields = fs })) (λ b. give (fbTypeHeadOf b))))
+    ) (then-then (many n field (drop (at + fbTypeHeadSize) s)) (λ fs. give (record { id = id; fields = fs })) (λ b. give (fbTypeHeadOf b))))
 
-pub table-by-walk : {A : Type 0} (r : Reader A) (s : List ℕ) (at n : ℕ) → at + 2 ≤ length s → n ≡ leAt 2 s at → {v w : Way} → v ≡ w → Goes (many n r) s (at + 2) v
-    → Reads (tableAt at (counted r)) s at (itemBy (record { at = at + 2; count = n }) w)
-table-by-walk r s at n h k = by-walk (λ c. record { at = at + 2; count = c }) r n (tableAt at (counted r)) s at (at + 2) (rw (counted-as r s at n h k))
+pub table-by-walk : {A : Type 0} (r : Reader A) (s : List ℕ) (at n : ℕ) → at + countSize ≤ length s → n ≡ leAt 2 s at → {v w : Way} → v ≡ w → Goes (many n r) s (at + countSize) v
+    → Reads (tableAt at (counted r)) s at (itemBy (record { at = at + countSize; count = n }) w)
+table-by-walk r s at n h k = by-walk (λ c. record { at = at + countSize; count = c }) r n (tableAt at (counted r)) s at (at + countSize) (rw (counted-as r s at n h k))
 
-pub table-short : {A : Type 0} (r : Reader A) (s : List ℕ) (at : ℕ) → length s - at < 2 → tableAt at (counted r) (drop at s) ≡ fault shortInput
+pub table-short : {A : Type 0} (r : Reader A) (s : List ℕ) (at : ℕ) → length s - at < countSize → tableAt at (counted r) (drop at s) ≡ fault shortInput
 table-short r s at h = rw (counted-short r s at h)
 
-module _ (s : List ℕ) (at : ℕ) (a : Array) (h : at + 12 ≤ length s) (k : a .kind ≡ leAt 1 s at) (n : a .elements ≡ leAt 4 s (at + 2)) (e : a .extra ≡ leAt 2 s (at + 6))
+module _ (s : List ℕ) (at : ℕ) (a : Array) (h : at + arrayDescriptorSize ≤ length s) (k : a .kind ≡ leAt 1 s at) (n : a .elements ≡ leAt 4 s (at + 2)) (e : a .extra ≡ leAt 2 s (at + 6))
     (t : a .stride ≡ leAt 4 s (at + 8)) where
-  array-head : array (drop at s) ≡ (check (strideFits (a .kind) (a .extra) (a .stride)) (invalidArrayStride (a .kind) (a .stride)) >> give a) (drop (at + 12) s)
+  array-head : array (drop at s) ≡ (check (strideFits (a .kind) (a .extra) (a .stride)) (invalidArrayStride (a .kind) (a .stride)) >> give a) (drop (at + arrayDescriptorSize) s)
   unfolding array
   array-head =
       rw (
@@ -208,7 +209,7 @@ module _ (s : List ℕ) (at : ℕ) (a : Array) (h : at + 12 ≤ length s) (k : a
         number-at 1 s (at + 1) (at + 2) (omega arith) (omega arith),
         number-at 4 s (at + 2) (at + 6) (omega arith) (omega arith),
         number-at 2 s (at + 6) (at + 8) (omega arith) (omega arith),
-        number-at 4 s (at + 8) (at + 12) (omega arith) h,
+        number-at 4 s (at + 8) (at + arrayDescriptorSize) (omega arith) h,
         ← k,
         ← n,
         ← e,
@@ -216,13 +217,13 @@ module _ (s : List ℕ) (at : ℕ) (a : Array) (h : at + 12 ≤ length s) (k : a
       )
 
   pub array-stop : (f : Fault) → refused f ≡ strideChecked a → array (drop at s) ≡ fault f
-  array-stop f c = array-head ∙ check-stop a (drop (at + 12) s) (invalidArrayStride (a .kind) (a .stride)) (strideFits (a .kind) (a .extra) (a .stride)) f c
+  array-stop f c = array-head ∙ check-stop a (drop (at + arrayDescriptorSize) s) (invalidArrayStride (a .kind) (a .stride)) (strideFits (a .kind) (a .extra) (a .stride)) f c
 
-  pub array-whole : found tt ≡ strideChecked a → array (drop at s) ≡ got a (drop (at + 12) s)
-  array-whole c = array-head ∙ check-good a (drop (at + 12) s) (invalidArrayStride (a .kind) (a .stride)) (strideFits (a .kind) (a .extra) (a .stride)) tt c
+  pub array-whole : found tt ≡ strideChecked a → array (drop at s) ≡ got a (drop (at + arrayDescriptorSize) s)
+  array-whole c = array-head ∙ check-good a (drop (at + arrayDescriptorSize) s) (invalidArrayStride (a .kind) (a .stride)) (strideFits (a .kind) (a .extra) (a .stride)) tt c
 
-pub user-fb-whole : (s : List ℕ) (at : ℕ) (u : UserFb) → at + 8 ≤ length s → u .id ≡ leAt 2 s at → u .function ≡ leAt 2 s (at + 2) → u .variableOffset ≡ leAt 2 s (at + 4)
-    → u .fieldCount ≡ leAt 1 s (at + 6) → userFb (drop at s) ≡ got u (drop (at + 8) s)
+pub user-fb-whole : (s : List ℕ) (at : ℕ) (u : UserFb) → at + userFbDescriptorSize ≤ length s → u .id ≡ leAt 2 s at → u .function ≡ leAt 2 s (at + 2) → u .variableOffset ≡ leAt 2 s (at + 4)
+    → u .fieldCount ≡ leAt 1 s (at + 6) → userFb (drop at s) ≡ got u (drop (at + userFbDescriptorSize) s)
 unfolding userFb
 user-fb-whole s at u h i f o n =
     rw (
@@ -230,7 +231,7 @@ user-fb-whole s at u h i f o n =
       number-at 2 s (at + 2) (at + 4) (omega arith) (omega arith),
       number-at 2 s (at + 4) (at + 6) (omega arith) (omega arith),
       number-at 1 s (at + 6) (at + 7) (omega arith) (omega arith),
-      number-at 1 s (at + 7) (at + 8) (omega arith) h,
+      number-at 1 s (at + 7) (at + userFbDescriptorSize) (omega arith) h,
       ← i,
       ← f,
       ← o,
@@ -238,20 +239,20 @@ user-fb-whole s at u h i f o n =
     )
 
 -- the table of user FBs: none, or a table that needs no walk
-pub users-none : (s : List ℕ) (at : ℕ) → length s < at + 2 → tableAt at (countedOrNone userFb) (drop at s) ≡ got (record { at = at + 2; count = 0 }) (drop at s)
-users-none s at h = let d = length-drop at s in rw (lt-ltb (length (drop at s)) 2 (omega arith))
+pub users-none : (s : List ℕ) (at : ℕ) → length s < at + countSize → tableAt at (countedOrNone userFb) (drop at s) ≡ got (record { at = at + countSize; count = 0 }) (drop at s)
+users-none s at h = let d = length-drop at s in rw (lt-ltb (length (drop at s)) countSize (omega arith))
 
-module _ (s : List ℕ) (at count : ℕ) (h : at + 2 ≤ length s) (n : count ≡ leAt 2 s at) where
-  users-some : countedOrNone userFb (drop at s) ≡ many count userFb (drop (at + 2) s)
-  users-some = let d = length-drop at s in rw (le-ltb (length (drop at s)) 2 (omega arith)) (counted-as userFb s at count h n)
+module _ (s : List ℕ) (at count : ℕ) (h : at + countSize ≤ length s) (n : count ≡ leAt 2 s at) where
+  users-some : countedOrNone userFb (drop at s) ≡ many count userFb (drop (at + countSize) s)
+  users-some = let d = length-drop at s in rw (le-ltb (length (drop at s)) countSize (omega arith)) (counted-as userFb s at count h n)
 
-  pub users-short : length s - (at + 2) < 8 * count → tableAt at (countedOrNone userFb) (drop at s) ≡ fault shortInput
-  users-short l = rw (users-some, needs-at (fixed-many count user-fb-fixed .short) s (at + 2) l)
+  pub users-short : length s - (at + countSize) < userFbDescriptorSize * count → tableAt at (countedOrNone userFb) (drop at s) ≡ fault shortInput
+  users-short l = rw (users-some, needs-at (fixed-many count user-fb-fixed .short) s (at + countSize) l)
 
-  pub users-whole : 8 * count ≤ length s - (at + 2) → Reads (tableAt at (countedOrNone userFb)) s at (item (record { at = at + 2; count = count }) (at + 2 + 8 * count))
+  pub users-whole : userFbDescriptorSize * count ≤ length s - (at + countSize) → Reads (tableAt at (countedOrNone userFb)) s at (item (record { at = at + countSize; count = count }) (at + countSize + userFbDescriptorSize * count))
   users-whole l =
-      by-way (λ c. record { at = at + 2; count = c }) userFb count (tableAt at (countedOrNone userFb)) s at (at + 2) (rw users-some) (onTo (at + 2 + 8 * count))
-      (omega arith, fixed-at (fixed-many count user-fb-fixed) s (at + 2) (omega arith))
+      by-way (λ c. record { at = at + countSize; count = c }) userFb count (tableAt at (countedOrNone userFb)) s at (at + countSize) (rw users-some) (onTo (at + countSize + userFbDescriptorSize * count))
+      (omega arith, fixed-at (fixed-many count user-fb-fixed) s (at + countSize) (omega arith))
 
 -- a product of two numbers of k bits has 2 k
 pub below : (k : ℕ) {a b : ℕ} → a < 2 ^ k → b < 2 ^ k → a * b < 2 ^ (k + k)

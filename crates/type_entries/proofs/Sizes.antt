@@ -19,17 +19,17 @@ use Rattle.format.specs.Types.{field, FbType, fbType, array}
 use Rattle.format.specs.Lookups.{FbTypeHead, fbTypeHeadOf}
 use Rattle.format.proofs.Answers.{never, same-found}
 use Rattle.type_entries.specs.Answers.{fbTypeHead}
-use Rattle.type_entries.specs.Starts.{fbTypeSize, fbTypesSize}
+use Rattle.type_entries.specs.Starts.{countSize, fieldEntrySize, fbTypeHeadSize, arrayDescriptorSize, fbTypeSize, fbTypesSize}
 use Rattle.type_entries.proofs.Entries.{field-width, array-width}
 
-pub arrays-take : Takes (λ xs. 2 + 12 * length xs) (counted array)
+pub arrays-take : Takes (λ xs. countSize + arrayDescriptorSize * length xs) (counted array)
 arrays-take = takes-counted (λ n. takes-width n array-width)
 
 moved : {A : Type 0} (r : Reader A) {n k : ℕ} {x y : List ℕ} {xs ys : List A} {u v : List ℕ} → n ≡ k → x ≡ y → xs ≡ ys → u ≡ v → many n r x ≡ got xs u → many k r y ≡ got ys v
 moved r p q f w e = cc
 
 -- the fields of an FB type stand behind its head
-pub fields-left : (s : List ℕ) (b : FbType) (t : List ℕ) → fbType s ≡ got b t → (many (length (b .fields)) field (drop 4 s) ≡ got (b .fields) t) × (4 ≤ length s)
+pub fields-left : (s : List ℕ) (b : FbType) (t : List ℕ) → fbType s ≡ got b t → (many (length (b .fields)) field (drop fbTypeHeadSize s) ≡ got (b .fields) t) × (fbTypeHeadSize ≤ length s)
 unfolding fbType
 fields-left s b t e =
     let i = both (number 2 s) e in
@@ -41,14 +41,14 @@ fields-left s b t e =
     let w = width-number 1 .takes (n .middle) (r .item) (r .middle) (r .first) in
     let x : f .item ≡ b .fields = cc in
     let y : f .middle ≡ t = cc in
-    let z : r .middle ≡ drop 4 s = w .0 ∙ ap (drop 1) (v .0) ∙ drop-drop 1 1 (i .middle) ∙ ap (drop 2) (u .0) ∙ drop-drop 2 2 s in
+    let z : r .middle ≡ drop fbTypeHeadSize s = w .0 ∙ ap (drop 1) (v .0) ∙ drop-drop 1 1 (i .middle) ∙ ap (drop 2) (u .0) ∙ drop-drop 2 2 s in
     let l = many-length field (n .item) (r .middle) (f .item) (f .middle) (f .first) in
     let h = ap length (u .0) ∙ length-drop 2 s in
     let k = ap length (v .0) ∙ length-drop 1 (i .middle) in
     (moved field (sym l ∙ ap length x) z x y (f .first), omega (arith, u .1, v .1, w .1))
 
--- so that a head that reads has the room of four bytes
-pub head-room : (s : List ℕ) (at : ℕ) {h : FbTypeHead} {m : ℕ} {v : Step FbTypeHead} → v ≡ item h m → Reads fbTypeHead s at v → at + 4 ≤ length s
+-- so a head that reads lies in the section
+pub head-room : (s : List ℕ) (at : ℕ) {h : FbTypeHead} {m : ℕ} {v : Step FbTypeHead} → v ≡ item h m → Reads fbTypeHead s at v → at + fbTypeHeadSize ≤ length s
 head-room s at {h} {m} e g =
     let b = made-gives fbTypeHeadOf (fbType (drop at s)) h (drop m s) (reads-told fbTypeHead s at e g .1) in
     omega (arith, fields-left (drop at s) (b .0) (drop m s) (b .1) .1, length-drop at s)
@@ -58,9 +58,9 @@ fb-type-takes =
     record {
       takes = λ s b t e.
           let k = fields-left s b t e in
-          let w = takes-width (length (b .fields)) field-width .takes (drop 4 s) (b .fields) t (k .0) in
-          let d = length-drop 4 s in
-          (w .0 ∙ drop-drop (4 * length (b .fields)) 4 s, omega (arith, w .1, k .1));
+          let w = takes-width (length (b .fields)) field-width .takes (drop fbTypeHeadSize s) (b .fields) t (k .0) in
+          let d = length-drop fbTypeHeadSize s in
+          (w .0 ∙ drop-drop (fieldEntrySize * length (b .fields)) fbTypeHeadSize s, omega (arith, w .1, k .1));
     }
 
 pub fb-types-many : (n : ℕ) → Takes fbTypesSize (many n fbType)
@@ -75,7 +75,7 @@ fb-types-many (suc n) =
           (v .0 ∙ ap (drop (fbTypesSize (c .others))) (u .0) ∙ drop-drop (fbTypesSize (c .others)) (fbTypeSize (c .first)) s ∙ ap (λ (l : List FbType). drop (fbTypesSize l) s) (sym (c .all)), omega (arith, ap fbTypesSize (c .all), u .1, v .1));
     }
 
--- the FB type of an index stands behind those before it
+-- the FB type at an index stands behind those before it
 pub fb-type-at : (i n : ℕ) (s : List ℕ) (bs : List FbType) (t : List ℕ) (b : FbType) (out : Fault) → many n fbType s ≡ got bs t → indexed out bs i ≡ found b
     → (x : List ℕ) × (fbType (drop (fbTypesSize (take i bs)) s) ≡ got b x)
 fb-type-at i zero s bs t b out e h = let z : bs ≡ [] = cc in never (rw z at h)
@@ -90,5 +90,5 @@ fb-type-at (suc i) (suc n) s bs t b out e h =
     let k = fbTypesSize (take i (c .others)) in
     (p .0, ap (λ (l : List FbType). fbType (drop (fbTypesSize (take (suc i) l)) s)) (c .all) ∙ ap fbType (sym (ap (drop k) u ∙ drop-drop k (fbTypeSize (c .first)) s)) ∙ p .1)
 
-pub fb-types-take : Takes (λ bs. 2 + fbTypesSize bs) (counted fbType)
+pub fb-types-take : Takes (λ bs. countSize + fbTypesSize bs) (counted fbType)
 fb-types-take = takes-counted fb-types-many

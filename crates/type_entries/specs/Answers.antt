@@ -11,6 +11,7 @@ use Rattle.format.specs.Types.{Field, fbType, Array, strideFits, UserFb}
 use Rattle.format.specs.Lookups.{FbTypeHead, fbTypeHeadOf}
 use Rattle.base.specs.Error.{faultOf}
 use Rattle.base.specs.Small.{fieldTypeNumber}
+use Rattle.type_entries.specs.Starts.{countSize}
 use Rattle.type_entries.specs.declared.FieldEntry.{FieldEntry}
 use Rattle.type_entries.specs.declared.FieldStep.{FieldStep}
 use Rattle.type_entries.specs.declared.FieldStep.the-variants as field-step
@@ -28,8 +29,8 @@ use Rattle.type_entries.specs.declared.UserFbStep.the-variants as user-f
 use Rattle.type_entries.specs.declared.TableStep.{TableStep}
 use Rattle.type_entries.specs.declared.TableStep.the-variants as table-step
 use Rattle.type_entries.specs.declared.Tables.{Tables}
-use Rattle.type_entries.specs.declared.TablesAnswer.{TablesAnswer}
-use Rattle.type_entries.specs.declared.TablesAnswer.the-variants as tables-answer
+use Rattle.type_entries.specs.declared.TypeTablesAnswer.{TypeTablesAnswer}
+use Rattle.type_entries.specs.declared.TypeTablesAnswer.the-variants as tables-answer
 
 -- Fields
 
@@ -40,7 +41,7 @@ abbrev pub fieldStep : FieldStep → Step Field
 fieldStep (field-step.Refused e) = stops (faultOf e)
 fieldStep (field-step.Entry f m) = item (fieldIn f) m
 
--- FB types: the code reads an FB type with all its fields, and keeps the head
+-- FB types: the code reads an FB type with all its fields and keeps the head
 
 abbrev pub fbTypeHeadIn : FbTypeDescriptor → FbTypeHead
 fbTypeHeadIn d = record { id = d .«type_id» .0; fieldCount = d .«num_fields» }
@@ -79,18 +80,17 @@ abbrev pub userFbStep : UserFbStep → Step UserFb
 userFbStep (user-fb-step.Refused e) = stops (faultOf e)
 userFbStep (user-fb-step.Entry u m) = item (userFbIn u) m
 
--- Tables with their counts in front: the code reads all entries, and keeps where they stand, two bytes behind the place `at` of the count, and
--- how many there are
+-- Tables with their counts in front: the code reads all entries and keeps where they start, behind the count at the place `at`, and their number
 
 abbrev pub tableAt : {A : Type 0} → ℕ → Reader (List A) → Reader Table
 tableAt at r = do
   xs ← r
-  give (record { at = at + 2; count = length xs })
+  give (record { at = at + countSize; count = length xs })
 
 abbrev pub tableStep : TableStep → Step Table
 tableStep (table-step.Refused e) = stops (faultOf e)
 tableStep (table-step.Entries t m) = item t m
 
-abbrev pub typeStartsFrom : TablesAnswer → Got Tables
+abbrev pub typeStartsFrom : TypeTablesAnswer → Got Tables
 typeStartsFrom (tables-answer.Refused e) = refused (faultOf e)
 typeStartsFrom (tables-answer.Tables t) = found t

@@ -1,4 +1,4 @@
--- Where the entries of the section's tables stand: each table behind its count of two bytes, and behind the tables before it.
+-- Where the entries of the section's tables start: each table's behind its count and the tables before it (document 01, "Sections", Types).
 use Prim.Native.Nat.{ℕ, _+_, _*_}
 use mathlib.Core.List.{List, [], _∷_}
 use lib.ListN.{length}
@@ -7,31 +7,48 @@ use Rattle.reading.specs.declared.Table.{Table}
 use Rattle.format.specs.Types.{FbType, TypeTables, typeTables}
 use Rattle.type_entries.specs.declared.Tables.{Tables}
 
+-- Sizes in bytes: a count, a field, an FB type without its fields, an array, a user FB
+
+abbrev pub countSize : ℕ
+countSize = 2
+
+abbrev pub fieldEntrySize : ℕ
+fieldEntrySize = 4
+
+abbrev pub fbTypeHeadSize : ℕ
+fbTypeHeadSize = 4
+
+abbrev pub arrayDescriptorSize : ℕ
+arrayDescriptorSize = 12
+
+abbrev pub userFbDescriptorSize : ℕ
+userFbDescriptorSize = 8
+
 -- the bytes of an FB type, and of several
 abbrev pub fbTypeSize : FbType → ℕ
-fbTypeSize b = 4 + 4 * length (b .fields)
+fbTypeSize b = fbTypeHeadSize + fieldEntrySize * length (b .fields)
 
 abbrev pub fbTypesSize : List FbType → ℕ
 fbTypesSize [] = 0
 fbTypesSize (b ∷ bs) = fbTypeSize b + fbTypesSize bs
 
 abbrev pub fbTypesStart : TypeTables → Table
-fbTypesStart t = record { at = 2; count = length (t .fbTypes) }
+fbTypesStart t = record { at = countSize; count = length (t .fbTypes) }
 
 abbrev pub arraysStart : TypeTables → Table
-arraysStart t = record { at = 4 + fbTypesSize (t .fbTypes); count = length (t .arrays) }
+arraysStart t = record { at = 2 * countSize + fbTypesSize (t .fbTypes); count = length (t .arrays) }
 
--- also where fewer than two bytes are left behind the arrays: there are no entries then
+-- also where too few bytes for a count are left behind the arrays: the table is then empty ("Fewer than two bytes left after the arrays means zero user FBs")
 abbrev pub userFbsStart : TypeTables → Table
-userFbsStart t = record { at = 6 + fbTypesSize (t .fbTypes) + 12 * length (t .arrays); count = length (t .userFbs) }
+userFbsStart t = record { at = 3 * countSize + fbTypesSize (t .fbTypes) + arrayDescriptorSize * length (t .arrays); count = length (t .userFbs) }
 
--- the fields of an FB type stand behind its head of 4 bytes
+-- the fields of an FB type stand behind its head
 abbrev pub fieldsStart : ℕ → FbType → Table
-fieldsStart at b = record { at = at + 4; count = length (b .fields) }
+fieldsStart at b = record { at = at + fbTypeHeadSize; count = length (b .fields) }
 
 abbrev pub typeStartsOf : TypeTables → Tables
 typeStartsOf t = record { «fb_types» = fbTypesStart t; arrays = arraysStart t; «user_fbs» = userFbsStart t }
 
--- what reading the section answers: its refusal, or these places
+-- what the section's reader answers: its refusal, or these places
 abbrev pub typeStartsIn : List ℕ → Got Tables
 typeStartsIn s = itemOf (typeTables s) >>= λ t. found (typeStartsOf t)

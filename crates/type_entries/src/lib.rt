@@ -1,4 +1,4 @@
-// The entries of the type section, each read at a place of the section `s`, and where its tables stand.
+// The entries of the type section, each read at a place of the section `s`, and the places of its tables.
 ghost use mathlib.Core.Path.{_≡_};
 ghost use Prim.Native.Nat.{_≤_};
 ghost use lib.ListN.{length};
@@ -24,13 +24,17 @@ use reading::u8_at;
 use reading::u16_at;
 use reading::u32_at;
 
-const FIELD_ENTRY_SIZE: usize = 4;
+// The bytes of the count in front of each table.
+const COUNT_SIZE: usize = 2;
 
-const FB_TYPE_HEAD_SIZE: usize = 4;
+pub const FIELD_ENTRY_SIZE: usize = 4;
 
-const ARRAY_DESCRIPTOR_SIZE: usize = 12;
+// The bytes of an FB type without its fields.
+pub const FB_TYPE_HEAD_SIZE: usize = 4;
 
-const USER_FB_DESCRIPTOR_SIZE: usize = 8;
+pub const ARRAY_DESCRIPTOR_SIZE: usize = 12;
+
+pub const USER_FB_DESCRIPTOR_SIZE: usize = 8;
 
 // The bytes of a slot of the data region.
 pub const SLOT_BYTES: u32 = 8;
@@ -46,13 +50,13 @@ pub struct FieldEntry {
     pub field_extra: u16,
 }
 
-// An FB type: its id and how many fields it has. The fields are read one by one.
+// An FB type: its id and its number of fields. The fields are read one by one.
 pub struct FbTypeDescriptor {
     pub type_id: FbTypeId,
     pub num_fields: u8,
 }
 
-// An array: the stride is the distance between the starts of its elements.
+// An array. The stride is the distance between the starts of neighbouring elements.
 pub struct ArrayDescriptor {
     pub element_type: u8,
     pub total_elements: u32,
@@ -60,7 +64,7 @@ pub struct ArrayDescriptor {
     pub element_stride: u32,
 }
 
-// An FB that a user defined: its id, the function of its body, the first of its variables, and how many fields it has.
+// A user-defined FB: its id, the function of its body, its first variable and its number of fields.
 pub struct UserFbDescriptor {
     pub type_id: FbTypeId,
     pub function_id: FunctionId,
@@ -89,20 +93,20 @@ pub enum UserFbStep {
     Entry(UserFbDescriptor, usize),
 }
 
-// A table with its count in front: where its entries stand, and where it ends.
+// A table with its count in front: where its entries start, and where it ends.
 pub enum TableStep {
     Refused(ContainerError),
     Entries(Table, usize),
 }
 
-// Where the entries of the section's tables stand.
+// Where the entries of each table start, and their counts.
 pub struct Tables {
     pub fb_types: Table,
     pub arrays: Table,
     pub user_fbs: Table,
 }
 
-pub enum TablesAnswer {
+pub enum TypeTablesAnswer {
     Refused(ContainerError),
     Tables(Tables),
 }
@@ -122,7 +126,7 @@ fn is_string(element_type: u8) -> bool
     element_type == WSTRING
 }
 
-// A string's stride may be above the natural one and not below it; any other element has exactly that.
+// A string's stride may exceed the natural one; any other element's stride must equal it.
 fn stride_fits(element_type: u8, element_extra: u16, element_stride: u32) -> bool
     ensures { λ r. ⌜ r ≡ strideFits «element_type» «element_extra» «element_stride» ⌝ }
 {
@@ -148,14 +152,14 @@ impl ArrayDescriptor {
         SLOT_BYTES
     }
 
-    // The bytes between the starts of two elements that follow each other.
+    // The bytes from the start of one element to the start of the next.
     pub fn element_stride(self) -> u32
         ensures { λ r. ⌜ r ≡ arrayIn self .stride ⌝ }
     {
         self.element_stride
     }
 
-    // Bytes to a character of an element that is a string.
+    // Bytes per character of a string element.
     pub fn element_char_width(self) -> CharWidth
         ensures { λ r. ⌜ byteWidth r ≡ elementCharWidth (arrayIn self) ⌝ }
     {
@@ -165,7 +169,7 @@ impl ArrayDescriptor {
         CharWidth::Narrow
     }
 
-    // Whether the stride is one that the element's type may have.
+    // Whether the element's type allows the stride.
     pub fn validate(self) -> Checked
         ensures { λ r. ⌜ checkedFrom r ≡ strideChecked (arrayIn self) ⌝ }
     {
@@ -239,7 +243,7 @@ fn skip_fields(s: &[u8], at: usize, n: usize) -> Walk
     Walk::At(p)
 }
 
-// The FB type at the place `at`; its fields stand 4 bytes behind that.
+// The FB type at the place `at`, with all its fields checked; they stand behind its head.
 pub fn read_fb_type(s: &[u8], at: usize) -> FbTypeStep
     ensures { λ r. ⌜ fbTypeStep r ≡ stepAt fbTypeHead (now (s .entry)) at ⌝ }
 {
@@ -357,10 +361,10 @@ fn fb_type_table(s: &[u8], at: usize) -> TableStep
     requires { ⌜ at ≤ length (now s) ⌝ }
     ensures { λ r. ⌜ tableStep r ≡ stepAt (tableAt at (counted fbType)) (now (s .entry)) at ⌝ }
 {
-    if s.len() - at < 2 {
+    if s.len() - at < COUNT_SIZE {
         return TableStep::Refused(ContainerError::ShortInput);
     }
-    let first = at + 2;
+    let first = at + COUNT_SIZE;
     let count = u16_at(s, at) as usize;
     match skip_fb_types(s, first, count) {
         Walk::Refused(e) => TableStep::Refused(e),
@@ -372,10 +376,10 @@ fn array_table(s: &[u8], at: usize) -> TableStep
     requires { ⌜ at ≤ length (now s) ⌝ }
     ensures { λ r. ⌜ tableStep r ≡ stepAt (tableAt at (counted array)) (now (s .entry)) at ⌝ }
 {
-    if s.len() - at < 2 {
+    if s.len() - at < COUNT_SIZE {
         return TableStep::Refused(ContainerError::ShortInput);
     }
-    let first = at + 2;
+    let first = at + COUNT_SIZE;
     let count = u16_at(s, at) as usize;
     match skip_arrays(s, first, count) {
         Walk::Refused(e) => TableStep::Refused(e),
@@ -383,12 +387,12 @@ fn array_table(s: &[u8], at: usize) -> TableStep
     }
 }
 
-// No user FB is refused, so that they need no walk. Fewer than two bytes mean that there are none.
+// No user FB can be refused, so none is walked. Fewer bytes than a count has mean zero user FBs.
 fn user_fb_table(s: &[u8], at: usize) -> TableStep
     requires { ⌜ at ≤ length (now s) ⌝ }
     ensures { λ r. ⌜ tableStep r ≡ stepAt (tableAt at (countedOrNone userFb)) (now (s .entry)) at ⌝ }
 {
-    let first = at + 2;
+    let first = at + COUNT_SIZE;
     if s.len() < first {
         return TableStep::Entries(
             Table {
@@ -406,17 +410,17 @@ fn user_fb_table(s: &[u8], at: usize) -> TableStep
     TableStep::Entries(Table { at: first, count }, first + size)
 }
 
-// The section's reader: its refusal, or where the entries of its tables stand.
-pub fn tables_of(s: &[u8]) -> TablesAnswer
+// The section's reader: its refusal, or the places of its tables.
+pub fn tables_of(s: &[u8]) -> TypeTablesAnswer
     ensures { λ r. ⌜ typeStartsFrom r ≡ typeStartsIn (now (s .entry)) ⌝ }
 {
     match fb_type_table(s, 0) {
-        TableStep::Refused(e) => TablesAnswer::Refused(e),
+        TableStep::Refused(e) => TypeTablesAnswer::Refused(e),
         TableStep::Entries(fb_types, a) => match array_table(s, a) {
-            TableStep::Refused(e) => TablesAnswer::Refused(e),
+            TableStep::Refused(e) => TypeTablesAnswer::Refused(e),
             TableStep::Entries(arrays, u) => match user_fb_table(s, u) {
-                TableStep::Refused(e) => TablesAnswer::Refused(e),
-                TableStep::Entries(user_fbs, _) => TablesAnswer::Tables(Tables {
+                TableStep::Refused(e) => TypeTablesAnswer::Refused(e),
+                TableStep::Entries(user_fbs, _) => TypeTablesAnswer::Tables(Tables {
                     fb_types,
                     arrays,
                     user_fbs,

@@ -27,7 +27,7 @@ fbTypesDriven next fields (suc n) t = onFbType fields (next t) (fbTypesDriven ne
 abbrev pub fbTypesWalked : ℕ → List ℕ → Table → Got (List FbType)
 fbTypesWalked n s t = fbTypesDriven (fbTypeStepOf s) (stepOf field s) n t
 
--- the steps over a file and the section's place in it, driven from where the walk starts, give the FB types `bs` with their fields
+-- from where the walk starts, the steps over a file and the section's place in it give the FB types `bs` with their fields
 pub record FbTypesFrom (f : List ℕ) (p : Place) (bs : List FbType) : Type 0 where
   pub first : Table
   pub starts : fbTypesAt f p ≡ found first

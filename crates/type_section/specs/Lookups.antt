@@ -11,16 +11,16 @@ use Rattle.format.specs.Types.{Field, field, FbType, fbType, Array, array, User
 use Rattle.format.specs.Record.{TypeCounts}
 use Rattle.format.specs.Lookups.{readAt, FbTypeHead, fbTypeHeadOf, fbTypeOf, fieldOf, arrayOf, arraySizeOf, userFbOf}
 use Rattle.base.specs.Section.{stepIn}
-use Rattle.type_entries.specs.Starts.{fbTypesSize, fbTypesStart, arraysStart, userFbsStart, fieldsStart, typeStartsOf}
+use Rattle.type_entries.specs.Starts.{countSize, fbTypesSize, fbTypesStart, arraysStart, userFbsStart, fieldsStart, typeStartsOf}
 use Rattle.type_entries.specs.declared.Tables.{Tables}
 
--- the section's reader: the record's counts
+-- the section's reader: the counts that the record keeps
 abbrev pub typeCountsOfSection : List ℕ → Got TypeCounts
 typeCountsOfSection s = itemOf (typeTables s) >>= λ t. found (record { fbTypes = length (t .fbTypes); arrays = length (t .arrays); userFbs = length (t .userFbs) })
 
 -- Lookups in the section's bytes
 
--- an FB type is answered by its head and the table of its fields, which stands behind the head
+-- the answer for an FB type: its head, and the table of its fields, which stands behind the head
 pub record FbTypeEntry : Type 0 where
   pub head : FbTypeHead
   pub fields : Table
@@ -28,9 +28,9 @@ pub record FbTypeEntry : Type 0 where
 abbrev pub fbTypeEntry : ℕ → FbType → FbTypeEntry
 fbTypeEntry at b = record { head = fbTypeHeadOf b; fields = fieldsStart at b }
 
--- the FB type of an index stands behind the count of two bytes and the FB types before it
+-- the FB type at an index stands behind the count and the FB types before it
 abbrev pub fbTypeOfSection : List ℕ → ℕ → Got FbTypeEntry
-fbTypeOfSection s i = itemOf (typeTables s) >>= λ t. indexed noEntry (t .fbTypes) i >>= λ b. found (fbTypeEntry (2 + fbTypesSize (take i (t .fbTypes))) b)
+fbTypeOfSection s i = itemOf (typeTables s) >>= λ t. indexed noEntry (t .fbTypes) i >>= λ b. found (fbTypeEntry (countSize + fbTypesSize (take i (t .fbTypes))) b)
 
 abbrev pub fieldOfSection : List ℕ → ℕ → ℕ → Got Field
 fieldOfSection s i j = itemOf (typeTables s) >>= fieldOf i j

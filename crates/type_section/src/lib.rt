@@ -14,14 +14,18 @@ use base::section::StartAnswer;
 use base::section::Walk;
 use base::section::section_part;
 use reading::Table;
+use type_entries::ARRAY_DESCRIPTOR_SIZE;
 use type_entries::ArrayDescriptor;
 use type_entries::ArrayStep;
+use type_entries::FB_TYPE_HEAD_SIZE;
+use type_entries::FIELD_ENTRY_SIZE;
 use type_entries::FbTypeDescriptor;
 use type_entries::FbTypeStep;
 use type_entries::FieldEntry;
 use type_entries::FieldStep;
 use type_entries::SizeAnswer;
-use type_entries::TablesAnswer;
+use type_entries::TypeTablesAnswer;
+use type_entries::USER_FB_DESCRIPTOR_SIZE;
 use type_entries::UserFbDescriptor;
 use type_entries::UserFbStep;
 use type_entries::read_array;
@@ -31,7 +35,7 @@ use type_entries::read_user_fb;
 use type_entries::skip_fb_types;
 use type_entries::tables_of;
 
-// How many entries the tables have.
+// The number of entries in each table.
 pub struct TypeCounts {
     pub fb_types: u16,
     pub arrays: u16,
@@ -63,7 +67,7 @@ pub enum UserFbAnswer {
     Entry(UserFbDescriptor),
 }
 
-// An FB type, and where its fields stand in the section.
+// An FB type, and where its fields start in the section.
 enum FbTypePlaced {
     Refused(ContainerError),
     Entry(FbTypeDescriptor, usize),
@@ -99,8 +103,8 @@ pub fn read_from(s: &[u8]) -> TypesAnswer
     ensures { λ r. ⌜ typeCountsFrom r ≡ typeCountsOfSection (now (s .entry)) ⌝ }
 {
     match tables_of(s) {
-        TablesAnswer::Refused(e) => TypesAnswer::Refused(e),
-        TablesAnswer::Tables(t) => {
+        TypeTablesAnswer::Refused(e) => TypesAnswer::Refused(e),
+        TypeTablesAnswer::Tables(t) => {
             let fb_types = t.fb_types.count as u16;
             let arrays = t.arrays.count as u16;
             let user_fbs = t.user_fbs.count as u16;
@@ -118,8 +122,8 @@ fn find_fb_type(s: &[u8], index: usize) -> FbTypePlaced
     ensures { λ r. ⌜ fbTypePlacedFrom r ≡ fbTypeOfSection (now (s .entry)) index ⌝ }
 {
     match tables_of(s) {
-        TablesAnswer::Refused(e) => FbTypePlaced::Refused(e),
-        TablesAnswer::Tables(t) => {
+        TypeTablesAnswer::Refused(e) => FbTypePlaced::Refused(e),
+        TypeTablesAnswer::Tables(t) => {
             let at = t.fb_types.at;
             let count = t.fb_types.count;
             if index >= count {
@@ -129,7 +133,7 @@ fn find_fb_type(s: &[u8], index: usize) -> FbTypePlaced
                 Walk::Refused(e) => FbTypePlaced::Refused(e),
                 Walk::At(p) => match read_fb_type(s, p) {
                     FbTypeStep::Refused(e) => FbTypePlaced::Refused(e),
-                    FbTypeStep::Entry(d, _) => FbTypePlaced::Entry(d, p + 4),
+                    FbTypeStep::Entry(d, _) => FbTypePlaced::Entry(d, p + FB_TYPE_HEAD_SIZE),
                 },
             }
         }
@@ -146,7 +150,7 @@ fn find_field(s: &[u8], index: usize, field: usize) -> FieldAnswer
             if field >= count {
                 return FieldAnswer::Refused(ContainerError::NoEntry);
             }
-            match read_field(s, at + 4 * field) {
+            match read_field(s, at + FIELD_ENTRY_SIZE * field) {
                 FieldStep::Refused(e) => FieldAnswer::Refused(e),
                 FieldStep::Entry(x, _) => FieldAnswer::Entry(x),
             }
@@ -158,14 +162,14 @@ fn find_array(s: &[u8], index: usize) -> ArrayAnswer
     ensures { λ r. ⌜ arrayFrom r ≡ arrayOfSection (now (s .entry)) index ⌝ }
 {
     match tables_of(s) {
-        TablesAnswer::Refused(e) => ArrayAnswer::Refused(e),
-        TablesAnswer::Tables(t) => {
+        TypeTablesAnswer::Refused(e) => ArrayAnswer::Refused(e),
+        TypeTablesAnswer::Tables(t) => {
             let at = t.arrays.at;
             let count = t.arrays.count;
             if index >= count {
                 return ArrayAnswer::Refused(ContainerError::NoArray);
             }
-            match read_array(s, at + 12 * index) {
+            match read_array(s, at + ARRAY_DESCRIPTOR_SIZE * index) {
                 ArrayStep::Refused(e) => ArrayAnswer::Refused(e),
                 ArrayStep::Entry(x, _) => ArrayAnswer::Entry(x),
             }
@@ -177,14 +181,14 @@ fn find_user_fb(s: &[u8], index: usize) -> UserFbAnswer
     ensures { λ r. ⌜ userFbFrom r ≡ userFbOfSection (now (s .entry)) index ⌝ }
 {
     match tables_of(s) {
-        TablesAnswer::Refused(e) => UserFbAnswer::Refused(e),
-        TablesAnswer::Tables(t) => {
+        TypeTablesAnswer::Refused(e) => UserFbAnswer::Refused(e),
+        TypeTablesAnswer::Tables(t) => {
             let at = t.user_fbs.at;
             let count = t.user_fbs.count;
             if index >= count {
                 return UserFbAnswer::Refused(ContainerError::NoEntry);
             }
-            match read_user_fb(s, at + 8 * index) {
+            match read_user_fb(s, at + USER_FB_DESCRIPTOR_SIZE * index) {
                 UserFbStep::Refused(e) => UserFbAnswer::Refused(e),
                 UserFbStep::Entry(x, _) => UserFbAnswer::Entry(x),
             }
@@ -192,7 +196,7 @@ fn find_user_fb(s: &[u8], index: usize) -> UserFbAnswer
     }
 }
 
-// An FB type: its id and how many fields it has.
+// An FB type: its id and its number of fields.
 pub fn fb_type(file: &[u8], section: Section, index: u16) -> FbTypeAnswer
     ensures { λ r. ⌜ fbTypeFrom r ≡ fbTypeAt (now (file .entry)) (placeIn section) index ⌝ }
 {
@@ -262,11 +266,11 @@ pub fn user_fb(file: &[u8], section: Section, index: u16) -> UserFbAnswer
 }
 
 // The tables of the section, read once.
-fn tables(file: &[u8], section: Section) -> TablesAnswer
+fn tables(file: &[u8], section: Section) -> TypeTablesAnswer
     ensures { λ r. ⌜ typeStartsFrom r ≡ tablesAt (now (file .entry)) (placeIn section) ⌝ }
 {
     match section_part(file, section) {
-        PartAnswer::Refused(e) => TablesAnswer::Refused(e),
+        PartAnswer::Refused(e) => TypeTablesAnswer::Refused(e),
         PartAnswer::Part(p) => {
             let start = p.offset;
             let end = start + p.size;
@@ -280,8 +284,8 @@ pub fn fb_types(file: &[u8], section: Section) -> StartAnswer
     ensures { λ r. ⌜ startFrom r ≡ fbTypesAt (now (file .entry)) (placeIn section) ⌝ }
 {
     match tables(file, section) {
-        TablesAnswer::Refused(e) => StartAnswer::Refused(e),
-        TablesAnswer::Tables(t) => {
+        TypeTablesAnswer::Refused(e) => StartAnswer::Refused(e),
+        TypeTablesAnswer::Tables(t) => {
             let first = t.fb_types;
             StartAnswer::Start(first)
         }
@@ -293,8 +297,8 @@ pub fn arrays(file: &[u8], section: Section) -> StartAnswer
     ensures { λ r. ⌜ startFrom r ≡ arraysAt (now (file .entry)) (placeIn section) ⌝ }
 {
     match tables(file, section) {
-        TablesAnswer::Refused(e) => StartAnswer::Refused(e),
-        TablesAnswer::Tables(t) => {
+        TypeTablesAnswer::Refused(e) => StartAnswer::Refused(e),
+        TypeTablesAnswer::Tables(t) => {
             let first = t.arrays;
             StartAnswer::Start(first)
         }
@@ -306,8 +310,8 @@ pub fn user_fbs(file: &[u8], section: Section) -> StartAnswer
     ensures { λ r. ⌜ startFrom r ≡ userFbsAt (now (file .entry)) (placeIn section) ⌝ }
 {
     match tables(file, section) {
-        TablesAnswer::Refused(e) => StartAnswer::Refused(e),
-        TablesAnswer::Tables(t) => {
+        TypeTablesAnswer::Refused(e) => StartAnswer::Refused(e),
+        TypeTablesAnswer::Tables(t) => {
             let first = t.user_fbs;
             StartAnswer::Start(first)
         }
@@ -327,7 +331,7 @@ fn next_fb_type_in(s: &[u8], t: Table) -> FbTypeNext
         FbTypeStep::Refused(e) => FbTypeNext::Refused(e),
         FbTypeStep::Entry(x, m) => {
             let fields = Table {
-                at: at + 4,
+                at: at + FB_TYPE_HEAD_SIZE,
                 count: x.num_fields as usize,
             };
             FbTypeNext::Entry(
@@ -458,7 +462,7 @@ pub fn next_user_fb(file: &[u8], section: Section, t: Table) -> UserFbNext
     }
 }
 
-// The claims of `specs/Laws.antt` hold. There is no code: the contract makes the check prove them.
+// The claims of `specs/Laws.antt` hold. Empty body: the contract makes the checker prove them.
 pub fn laws_hold()
     ensures { λ _. ⌜ Laws ⌝ }
 {}

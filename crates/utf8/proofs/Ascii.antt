@@ -1,4 +1,4 @@
--- Runs of ASCII: how the test of a run goes on by one more byte, and that a run adds its length to the good length.
+-- Runs of ASCII: how the test of a run goes on by one more byte, and that a run adds its length to the valid length.
 -- Assumes nothing.
 use mathlib.Core.Bool.{Bool, true, false, _&&_, and-true, and-false, and-assoc}
 use mathlib.Core.List.{List, [], _∷_, List·Memᴰ·head}
@@ -11,9 +11,9 @@ use lib.Dec.{T, eqb, leb→le}
 use lib.ListN.{length, drop, getD, replicate, length-drop, length-replicate}
 use lib.Seq.{drop-drop, getD-drop}
 use borrow.Author.Tests.{le-leb, lt-leb, eqb-true, eqb-false, eq-eqb, ne-eqb}
-use Rattle.utf8.specs.Utf8.{Range, _to_, within, starts, goodLength, Reached}
+use Rattle.utf8.specs.Utf8.{Range, _to_, within, starts, validUpTo, Reached}
 use Rattle.utf8.proofs.Table.{left, right, lead}
-use Rattle.utf8.proofs.Longest.{good-more}
+use Rattle.utf8.proofs.Longest.{valid-more}
 
 -- a row of `n` bytes of ASCII
 abbrev pub ascii : ℕ → List Range
@@ -68,21 +68,21 @@ counted-other s at k n m h c b e = (
 )
 
 -- each byte of a run is a sequence of its own
-run : (n : ℕ) (x : List ℕ) → T (starts (ascii n) x) → (n ≤ length x) × (goodLength x ≡ n + goodLength (drop n x))
+run : (n : ℕ) (x : List ℕ) → T (starts (ascii n) x) → (n ≤ length x) × (validUpTo x ≡ n + validUpTo (drop n x))
 run zero x t = (omega arith, omega arith)
 run (suc n) [] t = absurd t
 run (suc n) (b ∷ x) t =
     let w : T (within (0x00 to 0x7F) b) = search left in
     let h = run n x (search right) in
     let e = lead (0x00 to 0x7F ∷ []) b x (List·Memᴰ·head refl) (omega arith, leb→le b 0x7F (search right)) in
-    let g = good-more (b ∷ x) 0 e in
+    let g = valid-more (b ∷ x) 0 e in
     (omega (arith, h .0), omega (arith, h .1))
 
 pub reach : (n : ℕ) (s : List ℕ) (at i : ℕ) (a : Bool) → Reached s at i → a ≡ starts (ascii n) (drop i s) → a ≡ true → Reached s at (i + n)
 reach n s at i a h e t =
     let r = run n (drop i s) (rw (← e, t) tt) in
     let l = length-drop i s in
-    let g : goodLength (drop i s) ≡ n + goodLength (drop (i + n) s) = rw (← drop-drop n i s) (r .1) in
+    let g : validUpTo (drop i s) ≡ n + validUpTo (drop (i + n) s) = rw (← drop-drop n i s) (r .1) in
     (omega arith, omega (arith, r .0), omega arith)
 
 -- a place with a byte of ASCII is not one without

@@ -1,4 +1,4 @@
--- Laws of the table of well-formed sequences: no two lead ranges have a byte in common, so the lead byte tells the row.
+-- Laws of the table of well-formed sequences: no two lead ranges have a byte in common, so the lead byte decides the row.
 -- Assumes nothing.
 use mathlib.Core.Bool.{Bool, true, false, _&&_, _||_, cond, and-true, and-false, or-comm}
 use mathlib.Core.List.{List, [], _∷_, List·Memᴰ, List·Memᴰ·head, List·Memᴰ·tail}
@@ -86,12 +86,12 @@ past-end s at h = rw (drop-of-length-le s h)
 pub in-row : (k : ℕ) (s : List ℕ) (at x : ℕ) → (at < length s) × leads (getD wellFormed k []) (getD s at 0)
     → x ≡ behind (getD wellFormed k []) (drop (at + 1) s) → x ≡ sequenceAt (drop at s)
 in-row k s at x h e =
-    e ∙ rw (drop-cons s at 0 (h .0), add-one at) (sym (lead (getD wellFormed k []) (getD s at 0) (drop (suc at) s) (listed wellFormed k (h .1)) (h .1)))
+    e ∙ rw (drop-cons s at 0 (h .0), add-one at) (sym (lead (getD wellFormed k []) (getD s at 0) (drop (suc at) s) (in-table wellFormed k (h .1)) (h .1)))
   where
-    listed : (rows : List (List Range)) (k : ℕ) → leads (getD rows k []) (getD s at 0) → List·Memᴰ (getD rows k []) rows
-    listed [] k l = absurd l
-    listed (row ∷ rows) zero l = List·Memᴰ·head refl
-    listed (row ∷ rows) (suc k) l = List·Memᴰ·tail (listed rows k l)
+    in-table : (rows : List (List Range)) (k : ℕ) → leads (getD rows k []) (getD s at 0) → List·Memᴰ (getD rows k []) rows
+    in-table [] k l = absurd l
+    in-table (row ∷ rows) zero l = List·Memᴰ·head refl
+    in-table (row ∷ rows) (suc k) l = List·Memᴰ·tail (in-table rows k l)
 
 pub in-none : (r : Range) (s : List ℕ) (at : ℕ) → T (clear r wellFormed) → (at < length s) × leads (r ∷ []) (getD s at 0) → 0 ≡ sequenceAt (drop at s)
 unfolding sequenceAt

@@ -1,4 +1,5 @@
--- UTF-8 by Unicode's table of well-formed byte sequences (The Unicode Standard, table 3-7); document 01, "Leaves".
+-- UTF-8 by Unicode's table of well-formed byte sequences (The Unicode Standard, table 3-7). Document 01, "Leaves": "UTF-8 follows Unicode's
+-- table of well-formed sequences: ..".
 use mathlib.Core.Bool.{Bool, true, false, _&&_, cond}
 use mathlib.Core.List.{List, [], _∷_}
 use mathlib.Core.Path.{_≡_}
@@ -38,34 +39,34 @@ starts [] s = true
 starts (r ∷ row) [] = false
 starts (r ∷ row) (b ∷ s) = within r b && starts row s
 
--- the length of the first row of the table with which the text starts, and 0 where there is none
+-- the length of the first row of the table that the text starts with, or 0 if there is none
 abbrev pub firstOf : List (List Range) → List ℕ → ℕ
 firstOf [] s = 0
 firstOf (row ∷ rows) s = cond (starts row s) (length row) (firstOf rows s)
 
--- the length of the well-formed sequence that the text starts with, and 0 where there is none
+-- the length of the well-formed sequence that the text starts with, or 0 if there is none
 unfoldable pub sequenceAt : List ℕ → ℕ
 sequenceAt s = firstOf wellFormed s
 
--- no sequence: the length ends here; a sequence: its first byte counts, and then what `f` says of the rest
+-- no sequence: the count ends here; a sequence: its first byte counts, and then what `f` gives for the rest
 abbrev pub onward : ℕ → (ℕ → ℕ) → ℕ
 onward zero f = 0
 onward (suc k) f = suc (f k)
 
--- `goodLength`, where `k` more bytes belong to a sequence that was already found whole
-unfoldable pub goodAfter : ℕ → List ℕ → ℕ
-goodAfter k [] = 0
-goodAfter (suc k) (b ∷ s) = suc (goodAfter k s)
-goodAfter zero (b ∷ s) = onward (sequenceAt (b ∷ s)) (λ k. goodAfter k s)
+-- `validUpTo`, where `k` more bytes belong to a sequence that was already found whole
+unfoldable pub validAfter : ℕ → List ℕ → ℕ
+validAfter k [] = 0
+validAfter (suc k) (b ∷ s) = suc (validAfter k s)
+validAfter zero (b ∷ s) = onward (sequenceAt (b ∷ s)) (λ k. validAfter k s)
 
 -- the length of the longest start of the text that consists of whole well-formed sequences
-unfoldable pub goodLength : List ℕ → ℕ
-goodLength s = goodAfter 0 s
+unfoldable pub validUpTo : List ℕ → ℕ
+validUpTo s = validAfter 0 s
 
--- from the place `at` on whole sequences reach to the place i: they add their length to the good length of the rest
+-- from the place `at` on whole sequences reach to the place i: they add their length to the valid length of the rest
 abbrev pub Reached : List ℕ → ℕ → ℕ → Type 0
-Reached s at i = (at ≤ i) × (i ≤ length s) × (i + goodLength (drop i s) ≡ at + goodLength (drop at s))
+Reached s at i = (at ≤ i) × (i ≤ length s) × (i + validUpTo (drop i s) ≡ at + validUpTo (drop at s))
 
 -- the text is well-formed UTF-8: that length is its own
 unfoldable pub utf8 : List ℕ → Bool
-utf8 s = eqb (goodLength s) (length s)
+utf8 s = eqb (validUpTo s) (length s)

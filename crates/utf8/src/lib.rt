@@ -5,7 +5,7 @@ ghost use mathlib.Core.Path.{_≡_};
 ghost use Prim.Native.Nat.{_+_, _≤_, _<_};
 ghost use lib.ListN.{length, drop, replicate};
 ghost use Rattle.utf8.specs.Laws.{Laws};
-ghost use Rattle.utf8.specs.Utf8.{_to_, starts, sequenceAt, goodLength, Reached, utf8};
+ghost use Rattle.utf8.specs.Utf8.{_to_, starts, sequenceAt, validUpTo, Reached, utf8};
 
 // Whether a byte from `low` to `high` stands at `at`.
 fn has(s: &[u8], at: usize, low: u8, high: u8) -> bool
@@ -21,7 +21,7 @@ fn has(s: &[u8], at: usize, low: u8, high: u8) -> bool
     b <= high
 }
 
-// The length of a sequence of two bytes whose first, already known, stands at `at`; 0 where the second is not there.
+// The length of a sequence of two bytes whose first byte, already checked, stands at `at`; 0 if the second byte does not follow.
 fn two(s: &[u8], at: usize) -> usize
     requires { ⌜ at < length (now s) ⌝ }
     ensures { λ r. ⌜ r ≡ cond (starts (0x80 to 0xBF ∷ []) (drop (at + 1) (now (s .entry)))) 2 0 ⌝ }
@@ -29,7 +29,7 @@ fn two(s: &[u8], at: usize) -> usize
     if has(s, at + 1, 0x80, 0xBF) { 2 } else { 0 }
 }
 
-// The same of three bytes, of which the second is from `low` to `high`.
+// The same for three bytes, the second of them from `low` to `high`.
 fn three(s: &[u8], at: usize, low: u8, high: u8) -> usize
     requires { ⌜ at < length (now s) ⌝ }
     ensures { λ r. ⌜ r ≡ cond (starts (low to high ∷ 0x80 to 0xBF ∷ []) (drop (at + 1) (now (s .entry)))) 3 0 ⌝ }
@@ -40,7 +40,7 @@ fn three(s: &[u8], at: usize, low: u8, high: u8) -> usize
     0
 }
 
-// The same of four bytes.
+// The same for four bytes.
 fn four(s: &[u8], at: usize, low: u8, high: u8) -> usize
     requires { ⌜ at < length (now s) ⌝ }
     ensures { λ r. ⌜ r ≡ cond (starts (low to high ∷ 0x80 to 0xBF ∷ 0x80 to 0xBF ∷ []) (drop (at + 1) (now (s .entry)))) 4 0 ⌝ }
@@ -53,7 +53,7 @@ fn four(s: &[u8], at: usize, low: u8, high: u8) -> usize
     0
 }
 
-// The length of the well-formed sequence at `at`, and 0 where there is none.
+// The length of the well-formed sequence at `at`, or 0 if there is none.
 fn sequence(s: &[u8], at: usize) -> usize
     ensures { λ r. ⌜ r ≡ sequenceAt (drop at (now (s .entry))) ⌝ }
 {
@@ -75,8 +75,7 @@ fn sequence(s: &[u8], at: usize) -> usize
     }
 }
 
-// Whether eight bytes of ASCII stand at `at`. All are counted, with no way out at the first other byte, so that the compiler tests
-// them at once.
+// Whether eight bytes of ASCII stand at `at`. No early exit, so that the compiler can test all eight at once.
 fn eight(s: &[u8], at: usize) -> bool
     requires { ⌜ at ≤ length (now s) ⌝ }
     ensures { λ r. ⌜ r ≡ starts (replicate 8 (0x00 to 0x7F)) (drop at (now (s .entry))) ⌝ }
@@ -132,7 +131,7 @@ fn past_two(s: &[u8], at: usize) -> usize
     i
 }
 
-// The same of three bytes, with a first byte that most of them have.
+// The same for three bytes, with one of the usual first bytes.
 fn past_three(s: &[u8], at: usize) -> usize
     requires { ⌜ at ≤ length (now s) ⌝ }
     ensures { λ r. ⌜ Reached (now (s .entry)) at r ⌝ }
@@ -156,7 +155,7 @@ fn past_three(s: &[u8], at: usize) -> usize
     i
 }
 
-// The place behind the sequences from `at` on that are like the one before it, of `n` bytes.
+// The place behind the sequences from `at` on that are like the one before `at`, which has `n` bytes.
 fn past_alike(s: &[u8], at: usize, n: usize) -> usize
     requires { ⌜ at ≤ length (now s) ⌝ }
     ensures { λ r. ⌜ Reached (now (s .entry)) at r ⌝ }
@@ -167,10 +166,10 @@ fn past_alike(s: &[u8], at: usize, n: usize) -> usize
     past_three(s, at)
 }
 
-// The length of the longest start of `s` that consists of whole well-formed sequences. `sequence` decides; runs of sequences that are
-// alike are passed faster.
-pub fn good_length(s: &[u8]) -> usize
-    ensures { λ r. ⌜ r ≡ goodLength (now (s .entry)) ⌝ }
+// The length of the longest start of `s` that consists of whole well-formed sequences: the Rust's `Utf8Error::valid_up_to`. `sequence`
+// decides; runs of sequences of one kind are passed faster.
+pub fn valid_up_to(s: &[u8]) -> usize
+    ensures { λ r. ⌜ r ≡ validUpTo (now (s .entry)) ⌝ }
 {
     let mut i = 0;
     loop {
@@ -191,10 +190,10 @@ pub fn good_length(s: &[u8]) -> usize
 pub fn is_utf8(s: &[u8]) -> bool
     ensures { λ r. ⌜ r ≡ utf8 (now (s .entry)) ⌝ }
 {
-    good_length(s) == s.len()
+    valid_up_to(s) == s.len()
 }
 
-// The claims of `specs/Laws.antt` hold. There is no code: the contract makes the check prove them.
+// The claims of `specs/Laws.antt` hold. Empty body: the contract makes the checker prove them.
 pub fn laws_hold()
     ensures { λ _. ⌜ Laws ⌝ }
 {}

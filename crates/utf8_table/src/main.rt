@@ -1,5 +1,5 @@
-// Runs `utf8::good_length` on the edges of every row of Unicode's table of well-formed byte sequences (The Unicode
-// Standard, table 3-7). Writes a line for each text: its bytes, and the length of its good start.
+// Runs `utf8::valid_up_to` on the edges of every row of Unicode's table of well-formed byte sequences (The Unicode
+// Standard, table 3-7). Writes a line for each text: its bytes, and how far it is valid.
 use libc::STDOUT_FILENO;
 ghost use Prim.Native.Nat.{_<_, _≤_};
 
@@ -19,7 +19,7 @@ fn show(s: &[u8]) {
         byte(s[i]);
     }
     word(b": ");
-    io::print_decimal(STDOUT_FILENO, utf8::good_length(s) as u64);
+    io::print_decimal(STDOUT_FILENO, utf8::valid_up_to(s) as u64);
     word(b"\n");
 }
 
@@ -76,7 +76,7 @@ fn main() {
     row([0xF0, 0x90, 0x80, 0x80], [0xF0, 0xBF, 0xBF, 0xBF], 4);
     row([0xF1, 0x80, 0x80, 0x80], [0xF3, 0xBF, 0xBF, 0xBF], 4);
     row([0xF4, 0x80, 0x80, 0x80], [0xF4, 0x8F, 0xBF, 0xBF], 4);
-    // Bytes that start no sequence, the empty text, and a text of which only a start is good.
+    // Bytes that start no sequence, the empty text, and a text that is valid only at its start.
     show(b"\x80");
     show(b"\xC0");
     show(b"\xC1");

@@ -1,17 +1,27 @@
-// Runs BLAKE3's published vectors, the lines of data/blake3-vectors.txt: an input's length, and its digest in hexadecimal;
-// byte i of an input is i mod 251. Each input is hashed whole, in parts of uneven lengths, and in two parts through a lent
-// state. Behind them come an input of the most bytes that the hash is asked for, one of a byte more, one of a byte more than 511 chunks, and
-// one of twice as many as a state takes in.
+// Runs BLAKE3's published vectors, the lines of data/blake3-vectors.txt: an input's length and its digest in hexadecimal.
+// Byte i of an input is i mod 251. Each input is hashed whole, in parts of uneven lengths, and in two parts through a lent
+// state. Inputs at the hash limit, one byte over it, and beyond a state's capacity follow.
 use base::digest::Digest;
+use base::digest::HASH_LEN;
 use base::error::ContainerError;
 use blake3::HASH_LIMIT;
 use blake3::HashAnswer;
+use compression::BLOCK_LEN;
+use compression::CHUNK_LEN;
+use hasher::CAPACITY;
 use hasher::Hasher;
 use libc::STDOUT_FILENO;
-ghost use Prim.Native.Nat.{_<_, _≤_};
+ghost use Prim.Native.Nat.{_*_, _<_, _≤_};
 ghost use lib.ListN.{length};
+ghost use Rattle.hasher.specs.State.{capacity};
 
-// The number that a line starts with, and how many digits it has.
+// Twice as many bytes as a state takes in.
+const TWICE: usize = 2 * CAPACITY;
+
+// The fewest bytes of which one more chaining value would wait than a state has places for, if it took them all in.
+const NO_PLACE_LEFT: usize = TWICE - CHUNK_LEN + 1;
+
+// The number at the start of a line, and how many digits it has.
 struct Number {
     value: usize,
     digits: usize,
@@ -31,9 +41,8 @@ fn wide(b: u8) -> usize
     b as usize
 }
 
-// Twice as many bytes as a state takes in.
-fn room() -> [u8; 524288] {
-    [0; 524288]
+fn room() -> [u8; TWICE] {
+    [0; TWICE]
 }
 
 fn fill(input: &mut [u8]) {
@@ -53,29 +62,29 @@ fn digit(b: u8) -> u8 {
 }
 
 // A digest in hexadecimal.
-fn text_of(digest: Digest) -> [u8; 64] {
+fn text_of(digest: Digest) -> [u8; 2 * HASH_LEN] {
     let bytes = digest.bytes();
-    let mut text = [0u8; 64];
-    for i in 0..32usize {
+    let mut text = [0u8; 2 * HASH_LEN];
+    for i in 0..HASH_LEN {
         text[2 * i] = digit(bytes[i] / 16);
         text[2 * i + 1] = digit(bytes[i]);
     }
     text
 }
 
-// The lengths of the parts that an input is fed in, again and again.
+// The lengths of the parts that an input is fed in, over and over.
 fn part_length(turn: usize) -> usize
     ensures { λ r. ⌜ 0 < r ⌝ }
 {
     match turn {
         0 => 1,
-        1 => 63,
-        2 => 64,
-        3 => 65,
+        1 => BLOCK_LEN - 1,
+        2 => BLOCK_LEN,
+        3 => BLOCK_LEN + 1,
         4 => 200,
-        5 => 1023,
-        6 => 1024,
-        _ => 1025,
+        5 => CHUNK_LEN - 1,
+        6 => CHUNK_LEN,
+        _ => CHUNK_LEN + 1,
     }
 }
 
@@ -136,7 +145,7 @@ fn has_digits(answer: HashAnswer, expected: &[u8]) -> bool {
     }
 }
 
-// Whether an answer is a digest with the expected digits. If not, it is written.
+// Whether an answer is a digest with the expected digits. If not, it is printed.
 fn is_right(way: &[u8], answer: HashAnswer, expected: &[u8]) -> bool {
     if has_digits(answer, expected) {
         return true;
@@ -146,7 +155,7 @@ fn is_right(way: &[u8], answer: HashAnswer, expected: &[u8]) -> bool {
     false
 }
 
-// A vector: an input, and the digits of its digest.
+// A vector: an input and the digits of its digest.
 fn run(s: &[u8], expected: &[u8]) {
     count(s.len());
     if is_right(b" wrong, whole:", blake3::hash(s), expected)
@@ -158,7 +167,7 @@ fn run(s: &[u8], expected: &[u8]) {
     word(b"\n");
 }
 
-// An input with no digest given.
+// An input whose digest is not given.
 fn show(s: &[u8]) {
     count(s.len());
     answered(blake3::hash(s));
@@ -169,7 +178,7 @@ fn show(s: &[u8]) {
     word(b"\n");
 }
 
-// It stops at what is no digit, or once the number is larger than any input's length.
+// Stops at the first byte that is not a digit, or when the number is larger than any input's length.
 fn decimal(s: &[u8]) -> Number {
     let mut value = 0;
     let mut digits = 0;
@@ -197,7 +206,7 @@ fn malformed(s: &[u8]) {
     word(b"\n");
 }
 
-// A line of the file. An input's bytes are the first of `input`.
+// A line of the file. Its input is the first bytes of `input`.
 fn line(s: &[u8], input: &[u8]) {
     if is_comment(s) {
         return;
@@ -248,13 +257,13 @@ fn lines(file: &[u8], input: &[u8]) {
     }
 }
 
-// The most bytes that the hash is asked for, a byte more, a byte more than 511 chunks, and all.
+// The hash limit, one byte over it, and two inputs beyond a state's capacity.
 fn edges(input: &[u8])
-    requires { ⌜ 523265 ≤ length (now input) ⌝ }
+    requires { ⌜ 2 * capacity ≤ length (now input) ⌝ }
 {
     show(&input[..HASH_LIMIT]);
     show(&input[..HASH_LIMIT + 1]);
-    show(&input[..523265]);
+    show(&input[..NO_PLACE_LEFT]);
     show(input);
 }
 

@@ -155,7 +155,8 @@ fn debug(d: Option<&DebugSection>, lookup: &str, i: u32, j: u32) -> Answer {
     })
 }
 
-fn loaded(c: &Container, q: &Question) -> Answer {
+/// The Rust's answer from the tables of a container.
+pub fn loaded(c: &Container, q: &Question) -> Answer {
     let at = |n: usize| q.arguments.get(n).copied().unwrap_or(0);
     let (i, j) = (at(0), at(1));
     let tasks = &c.task_table;

@@ -10,6 +10,7 @@ use crate::listing::listing;
 use crate::port::{self, Port};
 use crate::questions::{questions, Question};
 use crate::reading::{read, Reading};
+use crate::records;
 
 /// Ask every index of a table of any length (slow on both sides).
 fn all() -> bool {
@@ -24,8 +25,8 @@ fn answers(file: &[u8], reading: &Reading, questions: &[Question]) -> Vec<String
 pub fn reply(file: &[u8]) -> String {
     let reading = read(file);
     let mut text = listing(&reading) + ".\n";
-    for line in answers(file, &reading, &questions(file, &reading, all())) {
-        text.push_str(&line);
+    for line in answers(file, &reading, &questions(file, &reading, all())).iter().chain(&records::lines(file, None)) {
+        text.push_str(line);
         text.push('\n');
     }
     text
@@ -45,6 +46,7 @@ struct Run {
     outcomes: BTreeMap<String, usize>,
     kinds: BTreeMap<&'static str, usize>,
     answers: usize,
+    over_others: usize,
     differ: usize,
     bytes: usize,
     small: usize,
@@ -112,8 +114,11 @@ fn one(file: &[u8], reading: &Reading, port: &Port, run: &mut Run) -> Option<(St
         return Some((difference.unwrap_or_default(), listed, said.listing));
     }
     let theirs = said.answers?;
-    let ours = answers(file, reading, &asked);
+    let mut ours = answers(file, reading, &asked);
     run.answers += ours.len();
+    let over_others = records::lines(file, None);
+    run.over_others += over_others.len();
+    ours.extend(over_others);
     let lines = |texts: &[String]| -> String { texts.join("\n") + "\n" };
     let difference = first_difference(
         &ours.iter().map(String::as_str).collect::<Vec<_>>(),
@@ -149,7 +154,7 @@ pub fn run(count: u64, seed: u64, port: &Port, directory: Option<&str>) -> bool 
         }
     }
     run.show();
-    println!("{count} compared, {} differ", run.differ);
+    println!("{count} compared, {} lookups over other records, {} differ", run.over_others, run.differ);
     run.differ == 0
 }
 

@@ -1,8 +1,9 @@
 //! The port as a static library: its C functions (include/nurqeshil.h), and their numbers as the text of an answer.
 
 use crate::bytes::hex;
+use crate::records::{CONSTANTS, DEBUG, FUNCTIONS, LOADED, PLACES, TASKS, TYPES};
 #[cfg(feature = "library")]
-use crate::{port::Reply, questions::Question};
+use crate::{port::Reply, questions::Question, records};
 
 #[cfg(feature = "library")]
 unsafe extern "C" {
@@ -10,6 +11,17 @@ unsafe extern "C" {
     fn container_ask(
         file: *const u8,
         length: usize,
+        kind: u16,
+        index: u16,
+        second: u16,
+        out: *mut u64,
+        room: usize,
+    ) -> usize;
+    fn container_lookup(
+        file: *const u8,
+        length: usize,
+        record: *const u64,
+        numbers: usize,
         kind: u16,
         index: u16,
         second: u16,
@@ -154,15 +166,8 @@ pub fn text(file: &[u8], lookup: &str, said: &[u64]) -> String {
     }
 }
 
-/// What loading answers: a 0, then version, profile, flags, seven places, eleven runtime numbers, and counts, at these places.
-const LOADED: usize = 44;
-const PLACES: usize = 4;
+/// Where the code section's size is in a record.
 const CODE_SIZE: usize = PLACES + 11;
-const FUNCTIONS: usize = 24;
-const TASKS: usize = 29;
-const TYPES: usize = 32;
-const CONSTANTS: usize = 36;
-const DEBUG: usize = 37;
 
 fn joined(numbers: &[u64]) -> String {
     numbers.iter().map(u64::to_string).collect::<Vec<_>>().join(" ")
@@ -225,6 +230,12 @@ mod linked {
         numbers(|out, room| unsafe { container_ask(file.as_ptr(), file.len(), kind, i, j, out, room) })
     }
 
+    fn looked_up(file: &[u8], record: &[u64], kind: u16, i: u16, j: u16) -> Vec<u64> {
+        numbers(|out, room| unsafe {
+            container_lookup(file.as_ptr(), file.len(), record.as_ptr(), record.len(), kind, i, j, out, room)
+        })
+    }
+
     fn line(file: &[u8], function: u16, offset: u16) -> Vec<u64> {
         numbers(|out, room| unsafe { container_line(file.as_ptr(), file.len(), function, offset, out, room) })
     }
@@ -256,17 +267,69 @@ mod linked {
     }
 
     fn answer(file: &[u8], loaded: &[u64], q: &Question) -> String {
-        let at = |n: usize| q.arguments.get(n).copied().unwrap_or(0);
-        let index = |n: usize| u16::try_from(at(n)).expect("an index of two bytes");
-        let said = match (q.lookup, KINDS.iter().position(|name| *name == q.lookup)) {
-            ("hash", _) => hash(&file[at(0) as usize..][..at(1) as usize]),
-            ("line", _) if line(file, index(0), index(1)) != asked(file, 18, index(0), index(1)) => {
-                "container_line and container_ask differ".to_string()
-            }
-            (lookup, Some(kind)) => text(file, lookup, &asked(file, kind as u16, index(0), index(1))),
+        let at = |n: usize| q.arguments.get(n).copied().unwrap_or(0) as usize;
+        let said = match (q.lookup, kind(q.lookup)) {
+            ("hash", _) => hash(&file[at(0)..][..at(1)]),
+            (_, Some(kind)) => own(file, loaded, kind, q),
             (lookup, None) => loaded_text(file, lookup, loaded, &content_hash(file)),
         };
         format!("{}: {said}", q.text())
+    }
+
+    /// A lookup over the file's own record: all ways to it must agree.
+    fn own(file: &[u8], loaded: &[u64], kind: u16, q: &Question) -> String {
+        let (i, j) = (index(q, 0), index(q, 1));
+        let said = asked(file, kind, i, j);
+        if looked_up(file, loaded, kind, i, j) != said {
+            return "container_lookup and container_ask differ".to_string();
+        }
+        if q.lookup == "line" && line(file, i, j) != said {
+            return "container_line and container_ask differ".to_string();
+        }
+        text(file, q.lookup, &said)
+    }
+
+    fn kind(lookup: &str) -> Option<u16> {
+        KINDS.iter().position(|name| *name == lookup).map(|kind| kind as u16)
+    }
+
+    fn index(q: &Question, n: usize) -> u16 {
+        u16::try_from(q.arguments.get(n).copied().unwrap_or(0)).expect("an index of two bytes")
+    }
+
+    /// A lookup over another record; the numbers behind it are not looked at.
+    fn over(file: &[u8], record: &records::Record, q: &Question) -> String {
+        let kind = kind(q.lookup).expect("a kind of the library");
+        let longer = [&record.0[..], &[u64::MAX]].concat();
+        let said = looked_up(file, &record.0, kind, index(q, 0), index(q, 1));
+        if looked_up(file, &longer, kind, index(q, 0), index(q, 1)) != said {
+            return "a number behind the record was read".to_string();
+        }
+        text(file, q.lookup, &said)
+    }
+
+    /// Numbers that stand for no record, made from those of one, must have no answer.
+    fn no_record(file: &[u8], loaded: &[u64]) -> Option<String> {
+        let with = |places: &[usize], number: u64| {
+            let mut numbers = loaded.to_vec();
+            places.iter().for_each(|place| numbers[*place] = number);
+            numbers
+        };
+        let wrong = [
+            loaded[..LOADED - 1].to_vec(),
+            with(&[0], 1),
+            with(&[1], 1 << 16),
+            with(&[2], 1 << 8),
+            with(&[PLACES], 1 << 32),
+            with(&[FUNCTIONS], 1 << 16),
+            with(&[TYPES], 2),
+            with(&[TYPES, TYPES + 1], 0).iter().enumerate().map(|(i, n)| if i == TYPES + 2 { 1 } else { *n }).collect(),
+            with(&[DEBUG], 2),
+            with(&[DEBUG], 0).iter().enumerate().map(|(i, n)| if i == LOADED - 1 { 1 } else { *n }).collect(),
+            with(&[LOADED - 1], u64::MAX),
+        ];
+        let answered = wrong.iter().position(|numbers| !looked_up(file, numbers, 0, 0, 0).is_empty())?;
+        Some(format!("numbers {answered} that stand for no record are answered\n"))
     }
 
     /// The listing; of a refused file the other functions must answer the same refusal.
@@ -275,7 +338,7 @@ mod linked {
         let length = unsafe { container_list(file.as_ptr(), file.len(), out.as_mut_ptr(), out.len()) };
         let listing = String::from_utf8_lossy(&out[..length.min(ROOM)]).into_owned();
         if loaded.first() == Some(&0) {
-            return listing;
+            return no_record(file, loaded).unwrap_or(listing);
         }
         let refused = refusal(loaded);
         if listing != refused.clone() + "\n" || asked(file, 0, 0, 0) != loaded || content_hash(file) != refused {
@@ -286,9 +349,11 @@ mod linked {
 
     pub fn ask(file: &[u8], questions: &[Question]) -> Reply {
         let loaded = load(file);
+        let mut answers: Vec<String> = questions.iter().map(|q| answer(file, &loaded, q)).collect();
+        answers.extend(records::lines(file, Some(&|record, q| over(file, record, q))));
         Reply {
             listing: listing(file, &loaded),
-            answers: Some(questions.iter().map(|q| answer(file, &loaded, q)).collect()),
+            answers: Some(answers),
         }
     }
 

@@ -19,6 +19,7 @@ mod port;
 mod prng;
 mod questions;
 mod reading;
+mod records;
 mod sections;
 
 use std::io::{Read, Write};

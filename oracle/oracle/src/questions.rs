@@ -161,6 +161,21 @@ impl Asking {
     }
 }
 
+/// The questions that are about more than one entry of a table.
+const WHOLE_TABLES: [&str; 6] = ["header", "tasks", "types", "constants", "code", "debug"];
+
+/// Lookups in the tables of a container; a missing table is asked at index 0.
+pub fn of_tables(c: &Container, seed: u64) -> Vec<Question> {
+    let mut asking = Asking {
+        questions: Vec::new(),
+        all: false,
+        prng: Prng::new(seed),
+    };
+    asking.loaded(c);
+    asking.questions.retain(|q| !WHOLE_TABLES.contains(&q.lookup));
+    asking.questions
+}
+
 /// The questions for one file. The lookups are asked of files that load; the leaves of every file.
 pub fn questions(file: &[u8], reading: &Reading, all: bool) -> Vec<Question> {
     let mut asking = Asking {

@@ -1,5 +1,5 @@
--- `blake3::fed_with` meets its contract: a walk of its MIR, by hand. The local state is lent to `update` for a lifetime that is made for the call, and taken back at the value that `update` left.
--- All that the proof knows of `update` is that it meets its contract.
+-- `blake3::fed_with` meets its contract: a walk of its MIR, by hand. The local state is lent to `update` for a lifetime made for the call, and taken back with the value that `update` left.
+-- The proof uses of `update` only that it meets its contract.
 use mathlib.Core.Path.{_≡_, refl, sym, subst, ap, _∙_}
 use Prim.Native.Nat.{ℕ}
 use mathlib.Core.List.{List, [], _∷_}
@@ -45,8 +45,8 @@ use denote.Triple.Walked.{says, Stays, stay-none, stay-none-slice, walkOf, AllGo
 use denote.Exit.{yes}
 use Rattle.hasher.specs.State.{fed}
 use Rattle.hasher.specs.declared.Hasher.{Hasher}
-use Rattle.hasher.proofs.Hasher as T
-use Rattle.hasher.proofs.Hasher.Laws as T′
+use Rattle.hasher.proofs.Hasher as HasherType
+use Rattle.hasher.proofs.Hasher.Laws as HasherLaws
 use Rattle.blake3.proofs.update as update
 use Rattle.blake3.proofs.update.Symbol as update-def
 use Rattle.blake3.proofs.update.Symbol.{name as #update}
@@ -57,7 +57,7 @@ use Rattle.blake3.proofs.fed_with.Statement as stated
 use Rattle.blake3.proofs.fed_with.Code as code
 
 abbrev R : RattleType
-R = T.the-row
+R = HasherType.the-row
 
 abbrev stayed : Stays (f.ended .signature .params) (f.ended .kept)
 stayed = (stay-none (λ _. R) yes, (stay-none-slice (0 ∷ []) tt (plain (λ _. u8)) yes, tt))
@@ -68,7 +68,7 @@ Upd 𝓤 H A mem run = tripleOf 𝓤 H A update.signature (update.spec 𝓤 H A 
 
 -- the machine values of a state and of a slice
 abbrev mach : Hasher → Val
-mach h = LL.val T.the-type T′.the-laws h
+mach h = LL.val HasherType.the-type HasherLaws.the-laws h
 
 abbrev view : RefT (List ℕ) → Val
 view s = sliceVal (s .ptr) (length (s .now))
@@ -78,17 +78,17 @@ fits-unit u e = subst (λ (y : Val). Holds (hasTy tyUnit y) × WT y) (sym (ap on
 
 module _ {M : Type 1} (𝓤 : URA M) (H : Heap 𝓤) (A : Atoms 𝓤) (W : Given 𝓤 H A) (at-mem : Memory → SProp 𝓤) (run : Routine → Fun 𝓤) where
   -- a local's cell and what its value owns are the state in memory, and back
-  lies-in : (h : Hasher) (l : ℕ) → ent 𝓤 (⋆ 𝓤 H A (‵ (fat fullShare T′.mir l 0 (mach h)) ∷ ‵ (R .own h (mach h ∷ [])) ∷ [])) (sem 𝓤 H A (partAt R fullShare h l 0))
+  lies-in : (h : Hasher) (l : ℕ) → ent 𝓤 (⋆ 𝓤 H A (‵ (fat fullShare HasherLaws.mir l 0 (mach h)) ∷ ‵ (R .own h (mach h ∷ [])) ∷ [])) (sem 𝓤 H A (partAt R fullShare h l 0))
   unfolding partOf
   lies-in h l =
-      qed W (‵ (fat fullShare T′.mir l 0 (mach h)) ∷ ‵ (R .own h (mach h ∷ [])) ∷ []) ∵ use1 W (‵ (cellAt fullShare (R .mir) (mach h ∷ []) l 0)) (W .laws .at-raw fullShare T′.mir l 0 (mach h)) $
+      qed W (‵ (fat fullShare HasherLaws.mir l 0 (mach h)) ∷ ‵ (R .own h (mach h ∷ [])) ∷ []) ∵ use1 W (‵ (cellAt fullShare (R .mir) (mach h ∷ []) l 0)) (W .laws .at-raw fullShare HasherLaws.mir l 0 (mach h)) $
       fjoin ! $ fpack ! (List Val) (λ us. fsep (cellAt fullShare (R .mir) us l 0) (R .own h us)) (mach h ∷ []) $ done !
 
-  lies-out : (h : Hasher) (l : ℕ) → ent 𝓤 (sem 𝓤 H A (partAt R fullShare h l 0)) (⋆ 𝓤 H A (‵ (fat fullShare T′.mir l 0 (mach h)) ∷ ‵ (R .own h (mach h ∷ [])) ∷ []))
+  lies-out : (h : Hasher) (l : ℕ) → ent 𝓤 (sem 𝓤 H A (partAt R fullShare h l 0)) (⋆ 𝓤 H A (‵ (fat fullShare HasherLaws.mir l 0 (mach h)) ∷ ‵ (R .own h (mach h ∷ [])) ∷ []))
   unfolding partOf
   lies-out h l =
-      qed W (‵ (partAt R fullShare h l 0) ∷ []) ∵ fpick ! (λ vs. fsplit ! $ spelt ! R (Is R) (shows 𝓤 H A R) (LL.vals T.the-type T′.the-laws) (LL.tells T.the-type T′.the-laws) fullShare h vs l 0 $
-      use1 W (‵ (fat fullShare T′.mir l 0 (mach h))) (W .laws .raw-at fullShare T′.mir l 0 (mach h)) $ done !)
+      qed W (‵ (partAt R fullShare h l 0) ∷ []) ∵ fpick ! (λ vs. fsplit ! $ spelt ! R (Is R) (shows 𝓤 H A R) (LL.vals HasherType.the-type HasherLaws.the-laws) (LL.tells HasherType.the-type HasherLaws.the-laws) fullShare h vs l 0 $
+      use1 W (‵ (fat fullShare HasherLaws.mir l 0 (mach h))) (W .laws .raw-at fullShare HasherLaws.mir l 0 (mach h)) $ done !)
 
   -- a call of `update`: the state h at l, lent for ν under the name δ, and the slice s at κ
   module _ (ν l : ℕ) (δ : GName) (h : Hasher) (κ : Lft) (q : Share) (s : RefT (List ℕ)) where
@@ -131,10 +131,10 @@ module _ {M : Type 1} (𝓤 : URA M) (H : Heap 𝓤) (A : Atoms 𝓤) (W : Given
         qed W (‵ (R .own r (mach r ∷ [])) ∷ (‵ (flft κ q) ⊛ ‵ ftrue) ∷ ‵ O ∷ []) ∵
         suffices ! _ (ends-at 𝓤 H A f.ended stayed (f.clauses 𝓤 H A at-mem run) W bound (mach r) r (tt, (tt, tt)) (tt, (tt, tt))) $ says ! e $
         move ! (1 ∷ []) $ frame ! $ nothing ! $ move ! (2 ∷ 0 ∷ []) $ fjoin ! $
-        owned ! R (Is R) (LL.makes T.the-type T′.the-plain 𝓤 H A) h _ is $ fjoin ! $ frame ! $ done !
+        owned ! R (Is R) (LL.makes HasherType.the-type HasherLaws.the-plain 𝓤 H A) h _ is $ fjoin ! $ frame ! $ done !
 
-    typed : (r : Hasher) → Is R r (mach r ∷ []) → Holds (hasTy T′.mir (mach r)) × WT (mach r)
-    typed r is = LL.lawful T.the-type T′.the-laws 𝓤 H A W .typed r _ is .0
+    typed : (r : Hasher) → Is R r (mach r ∷ []) → Holds (hasTy HasherLaws.mir (mach r)) × WT (mach r)
+    typed r is = LL.lawful HasherType.the-type HasherLaws.the-laws 𝓤 H A W .typed r _ is .0
 
     module _ (C : Calls 𝓤 H) (Λ : Loops 𝓤 H) (fm : FmC 𝓤 H (W .laws) C) (known : Triple 𝓤 (C #update) (Upd 𝓤 H A at-mem run)) where
       walk : Is R h (mach h ∷ []) → Is (ShrSlice (named 0) κ u8) s (view s ∷ [])
@@ -159,7 +159,7 @@ module _ {M : Type 1} (𝓤 : URA M) (H : Heap 𝓤) (A : Atoms 𝓤) (W : Given
           -- [the tokens; the last value; …; O; true; true; the lender's part; _5; …; _4; …]: the state is taken back
           land ! (from ! (stop !)) (init ! 9 refl (fits-unit u eu)) $ split ! $ lft-end ! tt $ move ! (0 ∷ 7 ∷ 2 ∷ []) $
           use3 W (later (‵ (partAt R fullShare (ws .0) l₃ 0))) (ref-back 𝓤 H A W R (ν ∷ []) δ (ws .0) l₃ 0) $ await ! tt $
-          use1 W (‵ (fat fullShare T′.mir l₃ 0 (mach (ws .0))) ⊛ ‵ (R .own (ws .0) (mach (ws .0) ∷ []))) (lies-out (ws .0) l₃) $ split ! $ move ! (1 ∷ []) $ peeks ! R (Is R) (shows 𝓤 H A R) (ws .0) (mach (ws .0) ∷ []) (λ is′.
+          use1 W (‵ (fat fullShare HasherLaws.mir l₃ 0 (mach (ws .0))) ⊛ ‵ (R .own (ws .0) (mach (ws .0) ∷ []))) (lies-out (ws .0) l₃) $ split ! $ move ! (1 ∷ []) $ peeks ! R (Is R) (shows 𝓤 H A R) (ws .0) (mach (ws .0) ∷ []) (λ is′.
           -- [what the state owns; _3; the slice's token; …; O; true; true; _5; …; _4; …; …; _2; …; _1; …; room for _0; …]
           assigns ! (of-opd ! (load ! (from ! (stop !)) (look ! 1 refl))) (from ! (stop !)) (init ! 16 refl (typed (ws .0) is′)) $
           returns ! (look ! 16 refl) $ forget ! 1 refl $ forget ! 7 refl $ forget ! 9 refl $ forget ! 12 refl $ forget ! 14 refl $ forget ! 16 refl $
@@ -169,7 +169,7 @@ module _ {M : Type 1} (𝓤 : URA M) (H : Heap 𝓤) (A : Atoms 𝓤) (W : Given
 
 module _ {M : Type 1} (𝓤 : URA M) (H : Heap 𝓤) (A : Atoms 𝓤) (W : Given 𝓤 H A) (mem : Memory → SProp 𝓤) (run : Routine → Fun 𝓤) where
   fed-with-walks : (C : Calls 𝓤 H) (Λ : Loops 𝓤 H) → FmC 𝓤 H (W .laws) C → Triple 𝓤 (C #update) (Upd 𝓤 H A mem run) → Walks 𝓤 H A f.ended stayed (WpFn 𝓤 H C Λ code.function) (f.clauses 𝓤 H A mem run)
-  fed-with-walks C Λ fm known = walked 𝓤 H A f.ended stayed (f.clauses 𝓤 H A mem run) (WpFn 𝓤 H C Λ code.function) (λ κs. (LL.vals T.the-type T′.the-laws, (slice-vals, tt))) (λ κs. (LL.tells T.the-type T′.the-laws, (shr-slice-tells (named 0) (κs .0) u8, tt)))
+  fed-with-walks C Λ fm known = walked 𝓤 H A f.ended stayed (f.clauses 𝓤 H A mem run) (WpFn 𝓤 H C Λ code.function) (λ κs. (LL.vals HasherType.the-type HasherLaws.the-laws, (slice-vals, tt))) (λ κs. (LL.tells HasherType.the-type HasherLaws.the-laws, (shr-slice-tells (named 0) (κs .0) u8, tt)))
       (λ κs qs bounds a g are. via 𝓤 _ (fst∗ 𝓤 _ (emp 𝓤)) (walk 𝓤 H A W mem run (κs .0) bounds (qs .0) (a .0) (a .1 .0) C Λ fm known (are .0) (are .1 .0)))
 
   goes : AllGo 𝓤 H A W 1 (f.signature .params) (f.ended .kept) stayed

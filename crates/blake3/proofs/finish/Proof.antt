@@ -11,7 +11,7 @@ use borrow.Author.Needs.{needs}
 use Rattle.blake3.proofs.finish.Statement.{statement}
 use Rattle.blake3.proofs.finish.Tie as tie
 
--- what a state says that it has taken in is over the limit, or not, as its fill is
+-- what `taken` reports is over the limit exactly if the state's fill is
 more : (f : ℕ) {n : ℕ} → n ≡ min f capacity → hashLimit < n → hashLimit < f
 more f e p = omega arith
 

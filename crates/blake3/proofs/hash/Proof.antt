@@ -1,5 +1,5 @@
--- `blake3::hash` meets its contract: over the limit the refusal, otherwise the digest: of one chunk at once, of more by the hasher's law
--- for an input fed in one part.
+-- `blake3::hash` meets its contract: over the limit the refusal, otherwise the digest, directly for one chunk, and for more by the hasher's law for
+-- an input fed in one part.
 use borrow.Author.Needs.{needs}
 use mathlib.Core.Path.{ap, _∙_}
 use native.Mathlib.Omega.{arith}

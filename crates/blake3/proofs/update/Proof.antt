@@ -1,6 +1,6 @@
 -- `blake3::update` meets its contract: a walk of its MIR, by hand. The borrow of the state is opened; the state is copied out and passed to the hasher's own
 -- `update`, here `fed`, with a copy of the slice; what that returns is stored in the state's cell; and the borrow is closed at it.
--- All that the proof knows of `fed` is that it meets its contract, and of the struct that it is plain data: no line looks into its fields.
+-- The proof uses of `fed` only that it meets its contract, and of the struct only that it is plain data: no line looks into its fields.
 use mathlib.Core.Path.{_≡_, refl}
 use Prim.Native.Nat.{ℕ}
 use mathlib.Core.List.{List, [], _∷_}
@@ -40,10 +40,10 @@ use denote.Triple.Spec.{Meets, tripleOf}
 use denote.Triple.Table.{entered, cited}
 use denote.Triple.Walked.{says, Stays, stay-ref, stay-none-slice, walkOf, AllGo, goes-ref, goes-none-slice, Walks, ends-at, walked, walk-meets}
 use denote.Exit.{yes}
-use Rattle.hasher.specs.State as S
+use Rattle.hasher.specs.State as State
 use Rattle.hasher.specs.declared.Hasher.{Hasher}
-use Rattle.hasher.proofs.Hasher as T
-use Rattle.hasher.proofs.Hasher.Laws as T′
+use Rattle.hasher.proofs.Hasher as HasherType
+use Rattle.hasher.proofs.Hasher.Laws as HasherLaws
 use Rattle.hasher.proofs.Hasher.update as fed
 use Rattle.hasher.proofs.Hasher.update.Symbol as fed-def
 use Rattle.hasher.proofs.Hasher.update.Symbol.{name as #fed}
@@ -54,7 +54,7 @@ use Rattle.blake3.proofs.update.Statement as stated
 use Rattle.blake3.proofs.update.Code as code
 
 abbrev R : RattleType
-R = T.the-row
+R = HasherType.the-row
 
 abbrev stayed : Stays (update.ended .signature .params) (update.ended .kept)
 stayed = (stay-ref (0 ∷ []) tt (plain (λ _. R)), (stay-none-slice (1 ∷ []) tt (plain (λ _. u8)) yes, tt))
@@ -69,7 +69,7 @@ module _ {M : Type 1} (𝓤 : URA M) (H : Heap 𝓤) (A : Atoms 𝓤) (W : Given
   v = sliceVal (s .ptr) (length (s .now))
 
   abbrev mach : Val
-  mach = LL.val T.the-type T′.the-laws h
+  mach = LL.val HasherType.the-type HasherLaws.the-laws h
 
   abbrev a : RefT Hasher × (RefT (List ℕ) × Unit {0})
   a = (record { ptr = (b, o); name = γ; now = h }, (s, tt))
@@ -95,10 +95,10 @@ module _ {M : Type 1} (𝓤 : URA M) (H : Heap 𝓤) (A : Atoms 𝓤) (W : Given
       move ! (0 ∷ 2 ∷ []) $ fjoin ! $ move ! (2 ∷ 0 ∷ []) $ fjoin ! $ move ! (2 ∷ 0 ∷ []) $
       use2 W (raw (Fed 𝓤 H A at-mem run .pre to-fed)) (qed W ((‵ (flft κ′ q′) ⊛ ‵ ftrue) ∷ ‵ (owns (R ∷ ShrSlice (named 0) κ′ u8 ∷ []) (h, (s, tt)) (mach ∷ [], (v ∷ [], tt))) ∷ []) ∵ join ! $ frame ! $ done !) $ frame ! $ done !
 
-  said : (r : Hasher) → ent 𝓤 (ensured 𝓤 H A fed.ended (fed.clauses 𝓤 H A at-mem run) (κ′, tt) (h, (s, tt)) tt r) (fact 𝓤 (r ≡ S.fed h (now s)))
-  said r = exE 𝓤 _ (λ ws. snd∗ 𝓤 (sem 𝓤 H A (lasts fed.ended (κ′, tt) (h, (s, tt)) ws)) (fact 𝓤 (r ≡ S.fed h (now s))))
+  said : (r : Hasher) → ent 𝓤 (ensured 𝓤 H A fed.ended (fed.clauses 𝓤 H A at-mem run) (κ′, tt) (h, (s, tt)) tt r) (fact 𝓤 (r ≡ State.fed h (now s)))
+  said r = exE 𝓤 _ (λ ws. snd∗ 𝓤 (sem 𝓤 H A (lasts fed.ended (κ′, tt) (h, (s, tt)) ws)) (fact 𝓤 (r ≡ State.fed h (now s))))
 
-  exits : (r : Hasher) → r ≡ S.fed h (now s) → ent 𝓤 (⋆ 𝓤 H A (‵ (fobs γ (R .coded .code r)) ∷ ‵ (fbor κ (Body (mem R) b o γ)) ∷ ‵ (flft κ q) ∷ (‵ (flft κ′ q′) ⊛ ‵ ftrue) ∷ ‵ Own ∷ [])) (Post vunit)
+  exits : (r : Hasher) → r ≡ State.fed h (now s) → ent 𝓤 (⋆ 𝓤 H A (‵ (fobs γ (R .coded .code r)) ∷ ‵ (fbor κ (Body (mem R) b o γ)) ∷ ‵ (flft κ q) ∷ (‵ (flft κ′ q′) ⊛ ‵ ftrue) ∷ ‵ Own ∷ [])) (Post vunit)
   exits r e =
       qed W (‵ (fobs γ (R .coded .code r)) ∷ ‵ (fbor κ (Body (mem R) b o γ)) ∷ ‵ (flft κ q) ∷ (‵ (flft κ′ q′) ⊛ ‵ ftrue) ∷ ‵ Own ∷ []) ∵
       suffices ! _ (ends-at 𝓤 H A update.ended stayed (update.clauses 𝓤 H A at-mem run) W (((κ, (κ′, tt)), (q, (q′, tt)), bounds, a, vals), tt) vunit tt (r, (tt, tt)) (tt, (tt, tt))) $ says ! e $
@@ -112,19 +112,19 @@ module _ {M : Type 1} (𝓤 : URA M) (H : Heap 𝓤) (A : Atoms 𝓤) (W : Given
         alloc1 ! (λ l₀. alloc1 ! (λ l₁. alloc1 ! (λ l₂. alloc1 ! (λ l₃. alloc1 ! (λ l₄. alloc0 ! $ params1 ! $ pass1 ! (init ! 6 refl (tt, tt)) $ pass1 ! (init ! 4 refl (shr-slice-lawful 𝓤 H A W (named 1) κ′ u8 .typed s (v ∷ []) p .0)) $ pass0 ! $
         -- [_4; …; _3; …; _2; …; _1; …; room for _0; …; the tokens; what the parameters own]: the borrow is opened
         move ! (11 ∷ []) $ fsplit ! $ fsplit3 ! $ drop ! $ move ! (13 ∷ []) $ split ! $ move ! (2 ∷ 3 ∷ 0 ∷ []) $
-        opens ! tt R {h = h} b o (λ vs. spelt ! R (Is R) (shows 𝓤 H A R) (LL.vals T.the-type T′.the-laws) (LL.tells T.the-type T′.the-laws) fullShare h vs b o $
+        opens ! tt R {h = h} b o (λ vs. spelt ! R (Is R) (shows 𝓤 H A R) (LL.vals HasherType.the-type HasherLaws.the-laws) (LL.tells HasherType.the-type HasherLaws.the-laws) fullShare h vs b o $
         move ! (1 ∷ []) $ peeks ! R (Is R) (shows 𝓤 H A R) h (mach ∷ []) (λ is.
         -- [what the state owns; its cell; the open borrow; obs; auth; bytes' token; what bytes owns; _4; …; _3; …; _2; …; _1; …; room for _0; …]
-        assigns ! (of-opd ! (load ! (from ! (hop ! (look ! 13 refl) (stop !))) (look-raw ! 1 refl))) (from ! (stop !)) (init ! 7 refl (LL.lawful T.the-type T′.the-laws 𝓤 H A W .typed h _ is .0)) $
+        assigns ! (of-opd ! (load ! (from ! (hop ! (look ! 13 refl) (stop !))) (look-raw ! 1 refl))) (from ! (stop !)) (init ! 7 refl (LL.lawful HasherType.the-type HasherLaws.the-laws 𝓤 H A W .typed h _ is .0)) $
         move ! (0 ∷ 5 ∷ 6 ∷ []) $ use3 W (raw (Fed 𝓤 H A at-mem run .pre to-fed) ⊛ ‵ Own) goes-fed $ split ! $
         -- [what `fed` asks; Own; the cell; the open borrow; obs; auth; _4; …; _3; …; _2; …; _1; …; room for _0; …]
         calls-at ! fm (Fed 𝓤 H A at-mem run) known to-fed (and-then ! (load ! (from ! (stop !)) (look ! 6 refl)) (and-then ! (load ! (from ! (stop !)) (look ! 10 refl)) (no-more !))) (λ u.
         use1 W (later (some (λ (r : Hasher). ((‵ (flft κ′ q′) ⊛ ‵ ftrue) ⊛ ‵ (R .own r (u ∷ []))) ⊛ raw (ensured 𝓤 H A fed.ended (fed.clauses 𝓤 H A at-mem run) (κ′, tt) (h, (s, tt)) tt r)))) (id⊢ 𝓤 _) $ await ! tt $ pick ! (λ r.
-        split ! $ move ! (1 ∷ []) $ use1 W (raw (fact 𝓤 (r ≡ S.fed h (now s)))) (said r) $ heard ! (r ≡ S.fed h (now s)) (λ e. split ! $ move ! (1 ∷ []) $
+        split ! $ move ! (1 ∷ []) $ use1 W (raw (fact 𝓤 (r ≡ State.fed h (now s)))) (said r) $ heard ! (r ≡ State.fed h (now s)) (λ e. split ! $ move ! (1 ∷ []) $
         -- [what the result owns; bytes' token; Own; the cell; the open borrow; obs; auth; _4; …; _3; …; _2; …; _1; …; room for _0; …]
         peeks ! R (Is R) (shows 𝓤 H A R) r (u ∷ []) (λ is′.
-        land ! (from ! (stop !)) (init ! 9 refl (LL.lawful T.the-type T′.the-laws 𝓤 H A W .typed r _ is′ .0)) $
-        assigns ! (of-opd ! (load ! (from ! (stop !)) (look ! 9 refl))) (from ! (hop ! (look ! 13 refl) (stop !))) (store-raw ! 3 refl (LL.lawful T.the-type T′.the-laws 𝓤 H A W .typed r _ is′ .0)) $
+        land ! (from ! (stop !)) (init ! 9 refl (LL.lawful HasherType.the-type HasherLaws.the-laws 𝓤 H A W .typed r _ is′ .0)) $
+        assigns ! (of-opd ! (load ! (from ! (stop !)) (look ! 9 refl))) (from ! (hop ! (look ! 13 refl) (stop !))) (store-raw ! 3 refl (LL.lawful HasherType.the-type HasherLaws.the-laws 𝓤 H A W .typed r _ is′ .0)) $
         assigns ! (of-opd ! (unit-lit !)) (from ! (stop !)) (init ! 15 refl (tt, tt)) $
         -- the borrow is closed at the result
         move ! (3 ∷ 0 ∷ 4 ∷ 5 ∷ 6 ∷ []) $ closes ! tt R r (u ∷ []) b o $

@@ -1,7 +1,7 @@
 -- `capi::content_hash` meets its contract.
 use mathlib.Core.Path.{sym}
 use denote.Ref.{now}
-use Rattle.capi.proofs.Asking.{hash-refused, hash-found}
+use Rattle.capi.proofs.Lookups.{hash-refused, hash-found}
 use borrow.Author.Needs.{needs}
 use Rattle.capi.proofs.content_hash.Statement.{statement}
 use Rattle.capi.proofs.content_hash.Tie as tie

@@ -3,15 +3,15 @@ use native.Mathlib.Omega.{arith}
 use denote.Ref.{now}
 use Rattle.base.specs.Section.{placeIn}
 use Rattle.code_section.specs.Answers.{funcIn}
-use Rattle.code_section.proofs.Entries.{Listed, listed, bytecode-outside, bytecode-inside}
+use Rattle.code_section.proofs.Entries.{Located, located, bytecode-outside, bytecode-inside}
 use Rattle.base.proofs.FileLookups.{getter-refused}
 use borrow.Author.Needs.{needs}
 use Rattle.code_section.proofs.bytecode_part.Statement.{statement}
 use Rattle.code_section.proofs.bytecode_part.Tie as tie
 
--- what the function that was found says of the section
-known : (c : tie.After-struct-known3) → let a = c .before .before .before .before .before .before .before .before .args in Listed (now (a .file)) (placeIn (a .section)) (a .num-functions) (a .function-id .0) (funcIn (c .before .before .before .before .f .given .0 .0))
-known c = listed _ _ _ _ _ (rw (c .before .before .before .before .f .given .1) at (c .before .before .before .before .before .before .get-function .ensures))
+-- what the function that was found implies for the section
+known : (c : tie.After-struct-known3) → let a = c .before .before .before .before .before .before .before .before .args in Located (now (a .file)) (placeIn (a .section)) (a .num-functions) (a .function-id .0) (funcIn (c .before .before .before .before .f .given .0 .0))
+known c = located _ _ _ _ _ (rw (c .before .before .before .before .f .given .1) at (c .before .before .before .before .before .before .get-function .ensures))
 
 sub-if1 : tie.Need-sub-if1
 sub-if1 c = omega (arith, known c .room)

@@ -1,4 +1,4 @@
--- `code_section::find` meets its contract: entry k of the directory stands at 16 times k.
+-- `code_section::find` meets its contract: entry k of the directory stands at k times the entry's size.
 use native.Mathlib.Omega.{arith}
 use Rattle.code_section.proofs.Entries.{short-refused, function-out, function-found}
 use borrow.Author.Needs.{needs}

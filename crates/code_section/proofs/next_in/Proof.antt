@@ -1,4 +1,4 @@
--- `code_section::next_in` meets its contract: an entry takes 16 bytes, and with fewer there is none.
+-- `code_section::next_in` meets its contract: the next entry needs all its bytes.
 use native.Mathlib.Omega.{arith}
 use Rattle.code_section.proofs.Entries.{function-fixed}
 use Rattle.base.proofs.FileLookups.{step-ends, step-short, step-entry}

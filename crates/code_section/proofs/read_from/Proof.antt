@@ -1,4 +1,4 @@
--- `code_section::read_from` meets its contract: the directory is there, or its reader is short of input.
+-- `code_section::read_from` meets its contract: the directory is there, or the input is too short for it.
 use native.Mathlib.Omega.{arith}
 use Rattle.code_section.proofs.Entries.{short-refused, code-good}
 use borrow.Author.Needs.{needs}

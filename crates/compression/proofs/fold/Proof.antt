@@ -1,4 +1,4 @@
--- `compression::fold` meets its contract, word by word. Written out, so that a wrong word is refused at this fact.
+-- `compression::fold` meets its contract, word by word. Written out so that a wrong word is refused at this fact.
 use mathlib.Core.Path.{refl}
 use borrow.Author.Needs.{needs}
 use Rattle.compression.proofs.fold.Statement.{statement}

@@ -1,4 +1,4 @@
--- `compression::rotr12` meets its contract. Written out, so that a wrong distance is refused at this fact.
+-- `compression::rotr12` meets its contract. Written out so that a wrong distance is refused at this fact.
 use borrow.Author.Needs.{needs}
 use Rattle.compression.proofs.rotr12.Statement.{statement}
 use Rattle.compression.proofs.rotr12.Tie as tie

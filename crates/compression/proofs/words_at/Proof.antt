@@ -12,7 +12,7 @@ use Rattle.compression.proofs.Table.{Filled, filled-none, filled-more, 
 use Rattle.compression.proofs.words_at.Statement.{statement}
 use Rattle.compression.proofs.words_at.Tie as tie
 
--- the word at i behind the place `at`
+-- word i from the place `at` on
 abbrev word : List ℕ → ℕ → ℕ → ℕ
 word s at i = leAt 4 (drop at s) (4 * i)
 

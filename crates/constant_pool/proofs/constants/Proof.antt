@@ -35,7 +35,7 @@ returns-2 : tie.Need-returns-2
 returns-2 c =
     let a = c .before .before .before .before .before .before .before .before .args in
     let q = c .before .before .before .before .p .given .0 .0 in
-    c .table .ensures (q .offset) ∙ handed-start (now (a .file)) (placeIn (a .section)) q (handed (c .before .before .before))
+    c .table .ensures ∙ handed-start (now (a .file)) (placeIn (a .section)) q (handed (c .before .before .before))
 
 pub constants-spec : {M : Type 1} → statement M
 constants-spec =

@@ -1,4 +1,4 @@
--- `constant_pool::find` meets its contract: the entry of an index is the first of those from the index on.
+-- `constant_pool::find` meets its contract: the entry at an index is the first of those from the index on.
 use mathlib.Core.Path.{_∙_, ap, sym, subst}
 use denote.Ref.{now}
 use Rattle.base.specs.Error.{faultOf}
@@ -13,26 +13,26 @@ returns : tie.Need-returns
 returns c =
     let a = c .before .before .before .before .before .before .args in
     let v = c .before .e .given in
-    (find-refused (a .base) (now (a .s)) (a .index .0) (faultOf (v .0 .0)) (sym (ap startFrom (v .1)) ∙ c .before .before .before .table .ensures (a .base)), tt)
+    (find-refused (a .base) (now (a .s)) (a .index .0) (faultOf (v .0 .0)) (sym (ap startFrom (v .1)) ∙ c .before .before .before .table .ensures), tt)
 
 returns-2 : tie.Need-returns-2
 returns-2 c =
     let a = c .before .before .before .before .before .before .before .before .before .args in
     let v = c .before .before .before .before .t .given in
-    (find-by (a .base) (now (a .s)) (a .index .0) (v .0 .0) (sym (ap startFrom (v .1)) ∙ c .before .before .before .before .before .before .table .ensures (a .base)) (ap constNextFrom (c .enum-told .given .1)) (c .before .before .next-in .ensures .0), tt)
+    (find-by (a .base) (now (a .s)) (a .index .0) (v .0 .0) (sym (ap startFrom (v .1)) ∙ c .before .before .before .before .before .before .table .ensures) (ap constNextFrom (c .enum-told .given .1)) (c .before .before .next-in .ensures .0), tt)
 
 returns-3 : tie.Need-returns-3
 returns-3 c =
     let a = c .before .before .before .before .before .before .before .before .before .before .args in
     let v = c .before .before .before .before .before .t .given in
-    (find-by (a .base) (now (a .s)) (a .index .0) (v .0 .0) (sym (ap startFrom (v .1)) ∙ c .before .before .before .before .before .before .before .table .ensures (a .base)) (ap constNextFrom (c .before .e2 .given .1)) (c .before .before .before .next-in .ensures .0), tt)
+    (find-by (a .base) (now (a .s)) (a .index .0) (v .0 .0) (sym (ap startFrom (v .1)) ∙ c .before .before .before .before .before .before .before .table .ensures) (ap constNextFrom (c .before .e2 .given .1)) (c .before .before .before .next-in .ensures .0), tt)
 
 returns-4 : tie.Need-returns-4
 returns-4 c =
     let a = c .before .before .before .before .before .before .before .before .before .before .args in
     let v = c .before .before .before .before .before .t .given in
     let x = c .before .c .given in
-    (find-by (a .base) (now (a .s)) (a .index .0) (v .0 .0) (sym (ap startFrom (v .1)) ∙ c .before .before .before .before .before .before .before .table .ensures (a .base)) (ap constNextFrom (x .1)) (c .before .before .before .next-in .ensures .0), subst (NextEnds _) (x .1) (c .before .before .before .next-in .ensures .1))
+    (find-by (a .base) (now (a .s)) (a .index .0) (v .0 .0) (sym (ap startFrom (v .1)) ∙ c .before .before .before .before .before .before .before .table .ensures) (ap constNextFrom (x .1)) (c .before .before .before .next-in .ensures .0), subst (NextEnds _) (x .1) (c .before .before .before .next-in .ensures .1))
 
 pub find-spec : {M : Type 1} → statement M
 find-spec =

@@ -1,34 +1,12 @@
--- `constant_pool::get_i64` meets its contract: the number, signed.
-use mathlib.Core.Path.{_∙_, ap, sym}
-use mir.Syntax.{w64}
-use mir.ValLaws.{toZ-ofZ}
-use Rattle.reading.specs.Answer.{found}
-use Rattle.format.specs.Constants.{signed}
-use Rattle.constant_pool.specs.Answers.{u64From}
-use Rattle.constant_pool.proofs.Getters.{after-refused, after-found}
+-- `constant_pool::get_i64` meets its contract: the pick of the entry.
+use mathlib.Core.Path.{_∙_, ap}
+use Rattle.constant_pool.specs.Picks.{i64Of}
 use borrow.Author.Needs.{needs}
 use Rattle.constant_pool.proofs.get_i64.Statement.{statement}
 use Rattle.constant_pool.proofs.get_i64.Tie as tie
 
 returns : tie.Need-returns
-returns c =
-    let e = sym (ap u64From (c .before .e .given .1)) ∙ c .before .before .before .number64 .ensures in
-    after-refused _ (λ n. found (signed 9223372036854775808 n)) _ e
-
-returns-2 : tie.Need-returns-2
-returns-2 c =
-    let n = c .before .before .n .given in
-    let e = sym (ap u64From (n .1)) ∙ c .before .before .before .before .number64 .ensures in
-    let s = toZ-ofZ w64 (c .signed64 .result) (record { sfits = c .signed64 .ok }) ∙ c .signed64 .ensures in
-    ap found s ∙ after-found _ (λ n. found (signed 9223372036854775808 n)) (n .0 .0) e
+returns c = c .i64-of .ensures ∙ ap i64Of (c .before .entry .ensures .0)
 
 pub get-i64-spec : {M : Type 1} → statement M
-get-i64-spec =
-    tie.close
-    (tie.spec
-    (λ c κs. search needs)
-    (λ c. search needs)
-    (λ c. search needs)
-    (λ c κs. search needs)
-    returns
-    returns-2)
+get-i64-spec = tie.close (tie.spec (λ c κs. search needs) (λ c κs. search needs) returns)

@@ -1,4 +1,4 @@
--- `constant_pool::next_in` meets its contract: what stands at the cursor is the table's next entry.
+-- `constant_pool::next_in` meets its contract: what stands at the place is the table's next entry.
 use mathlib.Core.Path.{ap, subst}
 use native.Mathlib.Omega.{arith}
 use lib.ListN.{drop, length-drop}

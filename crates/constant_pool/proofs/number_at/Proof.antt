@@ -1,4 +1,4 @@
--- `constant_pool::number_at` meets its contract, whichever way the size goes.
+-- `constant_pool::number_at` meets its contract at every size.
 use Prim.Native.Nat.{ℕ}
 use native.Mathlib.Nat.{add-sub-cancel-left}
 use mathlib.Core.Path.{ap, sym, _∙_}

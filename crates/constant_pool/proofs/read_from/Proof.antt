@@ -1,4 +1,4 @@
--- `constant_pool::read_from` meets its contract: strings kept by their bytes or by their places, there are as many constants.
+-- `constant_pool::read_from` meets its contract: the number of constants is the same whether strings are kept by bytes or by places.
 use mathlib.Core.Path.{_∙_, ap, sym}
 use native.Mathlib.Omega.{arith}
 use denote.Ref.{now}
@@ -10,16 +10,16 @@ use Rattle.constant_pool.proofs.read_from.Statement.{statement}
 use Rattle.constant_pool.proofs.read_from.Tie as tie
 
 returns : tie.Need-returns
-returns c = let v = c .before .e .given in count-refused (now (c .before .before .before .before .before .args .s)) (faultOf (v .0 .0)) (sym (ap startFrom (v .1)) ∙ c .before .before .before .table .ensures 0)
+returns c = let v = c .before .e .given in count-refused (now (c .before .before .before .before .before .args .s)) (faultOf (v .0 .0)) (sym (ap startFrom (v .1)) ∙ c .before .before .before .table .ensures)
 
--- the count has two bytes
+-- the count fits two bytes
 cast-t6 : tie.Need-cast-t6
 cast-t6 c =
     let v = c .before .before .t .given in
-    omega (arith, count-few (now (c .before .before .before .before .before .before .args .s)) (v .0 .0) (λ i. omega (arith, c .before .before .before .before .before .shared-slice-known .given i)) (sym (ap startFrom (v .1)) ∙ c .before .before .before .before .table .ensures 0))
+    omega (arith, count-few (now (c .before .before .before .before .before .before .args .s)) (v .0 .0) (λ i. omega (arith, c .before .before .before .before .before .shared-slice-known .given i)) (sym (ap startFrom (v .1)) ∙ c .before .before .before .before .table .ensures))
 
 returns-2 : tie.Need-returns-2
-returns-2 c = let v = c .before .before .t .given in count-found (now (c .before .before .before .before .before .before .args .s)) (v .0 .0) (sym (ap startFrom (v .1)) ∙ c .before .before .before .before .table .ensures 0)
+returns-2 c = let v = c .before .before .t .given in count-found (now (c .before .before .before .before .before .before .args .s)) (v .0 .0) (sym (ap startFrom (v .1)) ∙ c .before .before .before .before .table .ensures)
 
 pub read-from-spec : {M : Type 1} → statement M
 read-from-spec =

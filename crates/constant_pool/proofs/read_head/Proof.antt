@@ -5,15 +5,15 @@ use Prim.Native.Nat.{ℕ, _+_, _-_, _≤_}
 use native.Mathlib.Omega.{arith}
 use lib.ListN.{length, drop, length-drop}
 use denote.Ref.{now}
-use Rattle.reading.specs.Reader.{fault, got}
+use Rattle.reading.specs.Reader.{fault}
 use Rattle.reading.proofs.Given.{step-at}
 use Rattle.format.specs.Faults.{invalidConstantType}
-use Rattle.format.specs.Parts.{byPlace}
+use Rattle.format.specs.Parts.{byBytes}
 use Rattle.format.specs.Constants.{sizeFits}
 use Rattle.base.specs.Error.{faultOf}
 use Rattle.base.specs.Small.{constTypeNumber, constTypeFrom}
-use Rattle.constant_pool.specs.Lookups.{placeOf, keptOver}
-use Rattle.constant_pool.proofs.Entries.{constant-short, constant-type, constant-size, constant-few, constant-whole}
+use Rattle.constant_pool.specs.Entry.{headSize}
+use Rattle.constant_pool.proofs.Entries.{constant-short, constant-type, constant-size, constant-few, constant-whole, type-stops, type-gives}
 use borrow.Author.Needs.{needs}
 use Rattle.constant_pool.proofs.read_head.Statement.{statement}
 use Rattle.constant_pool.proofs.read_head.Tie as tie
@@ -23,7 +23,7 @@ returns c =
     let a = c .before .before .args in
     let s = now (a .s) in
     let l = length-drop (a .at) s in
-    (λ base. step-at _ _ _ _ (constant-short (byPlace (placeOf base s)) (drop (a .at) s) (omega arith)), tt)
+    (step-at _ _ _ _ (type-stops _ (constant-short byBytes (drop (a .at) s) (omega arith))), tt)
 
 returns-2 : tie.Need-returns-2
 returns-2 c =
@@ -32,8 +32,8 @@ returns-2 c =
     let t = c .before .before .before .before .const-type .given in
     let e = sym (ap constTypeFrom (t .1)) ∙ c .before .before .before .before .before .before .from-u8 .ensures in
     let f = sym (c .before .before .size-fits .ensures) ∙ c .before .if2 .taken in
-    let h : a .at + 4 ≤ length s = omega arith in
-    (λ base. step-at _ _ _ _ (constant-few (byPlace (placeOf base s)) s (a .at) (c .before .before .before .before .before .before .before .before .u16-at .result) h (c .before .before .before .before .before .before .before .before .u16-at .ensures) (c .before .before .before .before .before .before .before .u8-at .result) (constTypeNumber (t .0 .0)) (c .before .before .before .before .before .before .before .u8-at .ensures) e f (c .if3 .taken)), tt)
+    let h : a .at + headSize ≤ length s = omega arith in
+    (step-at _ _ _ _ (type-stops _ (constant-few byBytes s (a .at) (c .before .before .before .before .before .before .before .before .u16-at .result) h (c .before .before .before .before .before .before .before .before .u16-at .ensures) (c .before .before .before .before .before .before .before .u8-at .result) (constTypeNumber (t .0 .0)) (c .before .before .before .before .before .before .before .u8-at .ensures) e f (c .if3 .taken))), tt)
 
 returns-3 : tie.Need-returns-3
 returns-3 c =
@@ -43,15 +43,11 @@ returns-3 c =
     let t = c .before .before .before .before .const-type .given in
     let e = sym (ap constTypeFrom (t .1)) ∙ c .before .before .before .before .before .before .from-u8 .ensures in
     let f = sym (c .before .before .size-fits .ensures) ∙ c .before .if2 .taken in
-    let h : a .at + 4 ≤ length s = omega arith in
-    let l : a .at + 4 + n ≤ length s = omega arith in
-    let m : a .at + 4 ≤ a .at + 4 + n = omega arith in
-    let z : n ≡ a .at + 4 + n - (a .at + 4) = omega arith in (
-      λ base. step-at _ _ _ _ (
-        l,
-        constant-whole (byPlace (placeOf base s)) s (a .at) n h (c .before .before .before .before .before .before .before .before .u16-at .ensures) (c .before .before .before .before .before .before .before .u8-at .result) (constTypeNumber (t .0 .0)) (c .before .before .before .before .before .before .before .u8-at .ensures) e f (c .if3 .left)
-            ∙ ap (λ (k : ℕ). got (record { kind = constTypeNumber (t .0 .0); kept = keptOver base s (constTypeNumber (t .0 .0)) (a .at + 4) k }) (drop (a .at + 4 + n) s)) z,
-      ),
+    let h : a .at + headSize ≤ length s = omega arith in
+    let l : a .at + headSize + n ≤ length s = omega arith in
+    let m : a .at + headSize ≤ a .at + headSize + n = omega arith in
+    let z : n ≡ a .at + headSize + n - (a .at + headSize) = omega arith in (
+      step-at _ _ _ _ (l, type-gives _ (constant-whole byBytes s (a .at) n h (c .before .before .before .before .before .before .before .before .u16-at .ensures) (c .before .before .before .before .before .before .before .u8-at .result) (constTypeNumber (t .0 .0)) (c .before .before .before .before .before .before .before .u8-at .ensures) e f (c .if3 .left))),
       (m, subst (λ (k : ℕ). sizeFits (constTypeNumber (t .0 .0)) k ≡ true) z f),
     )
 
@@ -61,8 +57,8 @@ returns-4 c =
     let s = now (a .s) in
     let v = c .before .e .given in
     let e = sym (ap constTypeFrom (v .1)) ∙ c .before .before .before .from-u8 .ensures in
-    let h : a .at + 4 ≤ length s = omega arith in
-    (λ base. step-at _ _ _ _ (constant-type (byPlace (placeOf base s)) s (a .at) (c .before .before .before .before .before .u16-at .result) h (c .before .before .before .before .before .u16-at .ensures) (c .before .before .before .before .u8-at .result) (faultOf (v .0 .0)) (c .before .before .before .before .u8-at .ensures) e), tt)
+    let h : a .at + headSize ≤ length s = omega arith in
+    (step-at _ _ _ _ (type-stops _ (constant-type byBytes s (a .at) (c .before .before .before .before .before .u16-at .result) h (c .before .before .before .before .before .u16-at .ensures) (c .before .before .before .before .u8-at .result) (faultOf (v .0 .0)) (c .before .before .before .before .u8-at .ensures) e)), tt)
 
 returns-5 : tie.Need-returns-5
 returns-5 c =
@@ -71,9 +67,9 @@ returns-5 c =
     let t = c .before .before .before .before .const-type .given in
     let e = sym (ap constTypeFrom (t .1)) ∙ c .before .before .before .before .before .before .from-u8 .ensures in
     let f = sym (c .before .before .size-fits .ensures) ∙ c .before .if2 .left in
-    let h : a .at + 4 ≤ length s = omega arith in
+    let h : a .at + headSize ≤ length s = omega arith in
     let k = ap (λ (n : ℕ). fault (invalidConstantType n)) (sym (c .number .ensures)) in
-    (λ base. step-at _ _ _ _ (constant-size (byPlace (placeOf base s)) s (a .at) (c .before .before .before .before .before .before .before .before .u16-at .result) h (c .before .before .before .before .before .before .before .before .u16-at .ensures) (c .before .before .before .before .before .before .before .u8-at .result) (constTypeNumber (t .0 .0)) (c .before .before .before .before .before .before .before .u8-at .ensures) e f ∙ k), tt)
+    (step-at _ _ _ _ (type-stops _ (constant-size byBytes s (a .at) (c .before .before .before .before .before .before .before .before .u16-at .result) h (c .before .before .before .before .before .before .before .before .u16-at .ensures) (c .before .before .before .before .before .before .before .u8-at .result) (constTypeNumber (t .0 .0)) (c .before .before .before .before .before .before .before .u8-at .ensures) e f ∙ k)), tt)
 
 pub read-head-spec : {M : Type 1} → statement M
 read-head-spec =

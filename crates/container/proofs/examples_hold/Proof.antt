@@ -1,4 +1,4 @@
--- `container::examples_hold` has no code: its contract is that the examples are as said.
+-- `container::examples_hold` has an empty body: its contract is that the examples hold.
 use Rattle.container.proofs.Examples.{examples}
 use Rattle.container.proofs.examples_hold.Statement.{statement}
 use Rattle.container.proofs.examples_hold.Tie as tie

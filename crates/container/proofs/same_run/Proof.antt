@@ -1,4 +1,4 @@
--- `container::same_run` has no code: its contract is the first half of demand 3, which holds for any hash.
+-- `container::same_run` has an empty body: its contract is the first half of demand 3, which holds for any hash.
 use Rattle.format.proofs.RunSide.{run-side-independence, run-side-of-records}
 use Rattle.blake3.specs.Blake3.{blake3}
 use Rattle.container.proofs.same_run.Statement.{statement}

@@ -1,4 +1,4 @@
--- `container::types_at` meets its contract: there are none where the place is not in the file behind the header; else the section's reader decides.
+-- `container::types_at` meets its contract: none if the place is not in the file behind the header, else the section's reader decides.
 use native.Mathlib.Omega.{arith}
 use Prim.Native.Nat.{_+_, _≤_}
 use lib.ListN.{length}

@@ -6,15 +6,15 @@ use Rattle.base.specs.Section.{placeIn}
 use Rattle.reading.specs.Answer.{Got, found, _>>=_}
 use Rattle.format.specs.Parts.{Place}
 use Rattle.format.specs.Lookups.{EnumerationHead, enumerationOf}
-use Rattle.debug_entries.specs.Answers.{withValues, enumDefFrom}
+use Rattle.debug_entries.specs.Answers.{withValues, enumerationFound}
 use Rattle.debug_section.specs.Answers.{startsFrom, StartsInside}
 use Rattle.debug_section.proofs.Lookups.{refused-then, entry-fault, look-entry}
 use borrow.Author.Needs.{needs}
 use Rattle.debug_section.proofs.enumeration.Statement.{statement}
 use Rattle.debug_section.proofs.enumeration.Tie as tie
 
-part-find-enum-def-end : tie.Need-part-find-enum-def-end
-part-find-enum-def-end c = omega (arith, subst (StartsInside _ _) (c .before .before .before .t .given .1) (c .before .before .before .before .before .tables .ensures .1) .within)
+part-find-enumeration-end : tie.Need-part-find-enumeration-end
+part-find-enumeration-end c = omega (arith, subst (StartsInside _ _) (c .before .before .before .t .given .1) (c .before .before .before .before .before .tables .ensures .1) .within)
 
 returns : tie.Need-returns
 returns c =
@@ -27,21 +27,21 @@ returns-2 c =
     let a = c .before .before .before .before .before .before .before .before .before .before .before .args in
     let k = ap startsFrom (sym (c .before .before .before .before .before .before .before .t .given .1)) ∙ c .before .before .before .before .before .before .before .before .before .tables .ensures .0 in
     let i = subst (StartsInside (now (a .file)) (placeIn (a .section))) (c .before .before .before .before .before .before .before .t .given .1) (c .before .before .before .before .before .before .before .before .before .tables .ensures .1) in
-    entry-fault (now (a .file)) (placeIn (a .section)) k i (a .index) (c .enum-told .given .0 .0) (ap enumDefFrom (sym (c .enum-told .given .1)) ∙ c .before .before .find-enum-def .ensures)
+    entry-fault (now (a .file)) (placeIn (a .section)) k i (a .index) (c .enum-told .given .0 .0) (ap enumerationFound (sym (c .enum-told .given .1)) ∙ c .before .before .find-enumeration .ensures)
 
 returns-3 : tie.Need-returns-3
 returns-3 c =
     let a = c .before .before .before .before .before .before .before .before .before .before .before .args in
     let k = ap startsFrom (sym (c .before .before .before .before .before .before .before .t .given .1)) ∙ c .before .before .before .before .before .before .before .before .before .tables .ensures .0 in
     let i = subst (StartsInside (now (a .file)) (placeIn (a .section))) (c .before .before .before .before .before .before .before .t .given .1) (c .before .before .before .before .before .before .before .before .before .tables .ensures .1) in
-    look-entry (now (a .file)) (placeIn (a .section)) k i (a .index) (ap enumDefFrom (sym (c .enum-told2 .given .1)) ∙ c .before .before .find-enum-def .ensures)
+    look-entry (now (a .file)) (placeIn (a .section)) k i (a .index) (ap enumerationFound (sym (c .enum-told2 .given .1)) ∙ c .before .before .find-enumeration .ensures)
 
 returns-4 : tie.Need-returns-4
 returns-4 c =
     let a = c .before .before .before .before .before .before .before .before .before .before .before .before .args in
     let k = ap startsFrom (sym (c .before .before .before .before .before .before .before .before .t .given .1)) ∙ c .before .before .before .before .before .before .before .before .before .before .tables .ensures .0 in
     let i = subst (StartsInside (now (a .file)) (placeIn (a .section))) (c .before .before .before .before .before .before .before .before .t .given .1) (c .before .before .before .before .before .before .before .before .before .before .tables .ensures .1) in
-    look-entry (now (a .file)) (placeIn (a .section)) k i (a .index) (ap enumDefFrom (sym (c .before .x .given .1)) ∙ c .before .before .before .find-enum-def .ensures)
+    look-entry (now (a .file)) (placeIn (a .section)) k i (a .index) (ap enumerationFound (sym (c .before .x .given .1)) ∙ c .before .before .before .find-enumeration .ensures)
 
 pub enumeration-spec : {M : Type 1} → statement M
 enumeration-spec =
@@ -55,7 +55,7 @@ enumeration-spec =
     (λ c. search needs)
     (λ c. search needs)
     (λ c. search needs)
-    part-find-enum-def-end
+    part-find-enumeration-end
     (λ c κs. search needs)
     (λ c. search needs)
     (λ c. search needs)

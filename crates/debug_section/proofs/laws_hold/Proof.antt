@@ -1,5 +1,5 @@
 -- `debug_section::laws_hold` meets its contract.
-use Rattle.debug_section.proofs.Lying.{laws}
+use Rattle.debug_section.proofs.Laws.{laws}
 use Rattle.debug_section.proofs.laws_hold.Statement.{statement}
 use Rattle.debug_section.proofs.laws_hold.Tie as tie
 

@@ -1,4 +1,4 @@
--- `debug_section::tables` meets its contract: 10, then 15, then what the section's reader tells.
+-- `debug_section::tables` meets its contract: 10, then 15, then what the section's reader answers.
 use mathlib.Core.Path.{sym, ap, subst, _∙_}
 use native.Mathlib.Omega.{arith}
 use denote.Ref.{now}

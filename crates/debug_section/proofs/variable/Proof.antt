@@ -4,15 +4,15 @@ use native.Mathlib.Omega.{arith}
 use denote.Ref.{now}
 use Rattle.base.specs.Section.{placeIn}
 use Rattle.format.specs.Debug.{variable}
-use Rattle.debug_entries.specs.Answers.{varNameFrom}
+use Rattle.debug_entries.specs.Answers.{variableFound}
 use Rattle.debug_section.specs.Answers.{startsFrom, StartsInside}
 use Rattle.debug_section.proofs.Lookups.{refused-then, look, look-fault}
 use borrow.Author.Needs.{needs}
 use Rattle.debug_section.proofs.variable.Statement.{statement}
 use Rattle.debug_section.proofs.variable.Tie as tie
 
-part-find-var-name-end : tie.Need-part-find-var-name-end
-part-find-var-name-end c = omega (arith, subst (StartsInside _ _) (c .before .before .before .t .given .1) (c .before .before .before .before .before .tables .ensures .1) .within)
+part-find-variable-end : tie.Need-part-find-variable-end
+part-find-variable-end c = omega (arith, subst (StartsInside _ _) (c .before .before .before .t .given .1) (c .before .before .before .before .before .tables .ensures .1) .within)
 
 returns : tie.Need-returns
 returns c =
@@ -24,21 +24,21 @@ returns-2 c =
     let a = c .before .before .before .before .before .before .before .before .before .before .before .args in
     let k = ap startsFrom (sym (c .before .before .before .before .before .before .before .t .given .1)) ∙ c .before .before .before .before .before .before .before .before .before .tables .ensures .0 in
     let i = subst (StartsInside (now (a .file)) (placeIn (a .section))) (c .before .before .before .before .before .before .before .t .given .1) (c .before .before .before .before .before .before .before .before .before .tables .ensures .1) in
-    look-fault (now (a .file)) (placeIn (a .section)) k i variable (λ u. u .variables) (λ t. t .variables) (λ t s. s .variables) (a .index) (c .enum-told .given .0 .0) (ap varNameFrom (sym (c .enum-told .given .1)) ∙ c .before .before .find-var-name .ensures)
+    look-fault (now (a .file)) (placeIn (a .section)) k i variable (λ u. u .variables) (λ t. t .variables) (λ t s. s .variables) (a .index) (c .enum-told .given .0 .0) (ap variableFound (sym (c .enum-told .given .1)) ∙ c .before .before .find-variable .ensures)
 
 returns-3 : tie.Need-returns-3
 returns-3 c =
     let a = c .before .before .before .before .before .before .before .before .before .before .before .args in
     let k = ap startsFrom (sym (c .before .before .before .before .before .before .before .t .given .1)) ∙ c .before .before .before .before .before .before .before .before .before .tables .ensures .0 in
     let i = subst (StartsInside (now (a .file)) (placeIn (a .section))) (c .before .before .before .before .before .before .before .t .given .1) (c .before .before .before .before .before .before .before .before .before .tables .ensures .1) in
-    look (now (a .file)) (placeIn (a .section)) k i variable (λ u. u .variables) (λ t. t .variables) (λ t s. s .variables) (a .index) (ap varNameFrom (sym (c .enum-told2 .given .1)) ∙ c .before .before .find-var-name .ensures)
+    look (now (a .file)) (placeIn (a .section)) k i variable (λ u. u .variables) (λ t. t .variables) (λ t s. s .variables) (a .index) (ap variableFound (sym (c .enum-told2 .given .1)) ∙ c .before .before .find-variable .ensures)
 
 returns-4 : tie.Need-returns-4
 returns-4 c =
     let a = c .before .before .before .before .before .before .before .before .before .before .before .before .args in
     let k = ap startsFrom (sym (c .before .before .before .before .before .before .before .before .t .given .1)) ∙ c .before .before .before .before .before .before .before .before .before .before .tables .ensures .0 in
     let i = subst (StartsInside (now (a .file)) (placeIn (a .section))) (c .before .before .before .before .before .before .before .before .t .given .1) (c .before .before .before .before .before .before .before .before .before .before .tables .ensures .1) in
-    look (now (a .file)) (placeIn (a .section)) k i variable (λ u. u .variables) (λ t. t .variables) (λ t s. s .variables) (a .index) (ap varNameFrom (sym (c .before .x .given .1)) ∙ c .before .before .before .find-var-name .ensures)
+    look (now (a .file)) (placeIn (a .section)) k i variable (λ u. u .variables) (λ t. t .variables) (λ t s. s .variables) (a .index) (ap variableFound (sym (c .before .x .given .1)) ∙ c .before .before .before .find-variable .ensures)
 
 pub variable-spec : {M : Type 1} → statement M
 variable-spec =
@@ -52,7 +52,7 @@ variable-spec =
     (λ c. search needs)
     (λ c. search needs)
     (λ c. search needs)
-    part-find-var-name-end
+    part-find-variable-end
     (λ c κs. search needs)
     (λ c. search needs)
     (λ c. search needs)

@@ -8,14 +8,14 @@ use Rattle.reading.proofs.Passing.{reads-told}
 use Rattle.reading.proofs.Given.{reads-at}
 use Rattle.debug_tables.specs.Starts.{payloadStart}
 use Rattle.debug_tables.specs.Answers.{kindIn, payloadStep}
-use Rattle.debug_tables.proofs.Rows.{Going, read-short, read-few, going-start, going-end, going-bad, going-on}
+use Rattle.debug_tables.proofs.Rows.{RowsDone, read-short, read-few, none-done, all-done, row-stops, row-done}
 use Rattle.debug_tables.proofs.Payloads.{stays-start}
 use borrow.Author.Needs.{needs}
 use Rattle.debug_tables.proofs.read_tables.Statement.{statement}
 use Rattle.debug_tables.proofs.read_tables.Tie as tie
 
 abbrev Inv-loop : tie.InvT-loop
-Inv-loop s n p₀ tables₀ i₀ p tables i = (i ≤ n) × (p ≤ length s) × (2 + 8 * n ≤ length s) × (n < 65536) × Going s n p i tables
+Inv-loop s n p₀ tables₀ i₀ p tables i = (i ≤ n) × (p ≤ length s) × (2 + 8 * n ≤ length s) × (n < 65536) × RowsDone s n p i tables
 
 abbrev μ-loop : tie.MeasureT-loop
 μ-loop s n p₀ tables₀ i₀ p tables i = n - i
@@ -37,7 +37,7 @@ loop-holds c =
       omega arith,
       omega arith,
       search needs,
-      subst (Going s n (2 + 8 * n) 0) (sym (c .no-tables .ensures)) (going-start s n (omega arith) (c .before .before .u16-at .ensures)),
+      subst (RowsDone s n (2 + 8 * n) 0) (sym (c .no-tables .ensures)) (none-done s n (omega arith) (c .before .before .u16-at .ensures)),
     )
 
 returns-3 : tie.Need-returns-3 Inv-loop μ-loop
@@ -47,7 +47,7 @@ returns-3 c =
     let l = c .before .before .before .before .before .before .before .before .loop in
     let k = kindIn (c .before .before .before .before .before .kind-of .result) in
     let size = c .before .before .before .before .u32-at .result in
-    going-bad s (c .before .before .before .before .before .before .before .before .before .before .before .u16-at .result) (l .p) (l .i) (l .tables) (c .before .before .before .before .before .before .u16-at2 .result) size (l .inv .2) (l .inv .1) (c .before .before .before .before .before .before .before .loop-test .taken)
+    row-stops s (c .before .before .before .before .before .before .before .before .before .before .before .u16-at .result) (l .p) (l .i) (l .tables) (c .before .before .before .before .before .before .u16-at2 .result) size (l .inv .2) (l .inv .1) (c .before .before .before .before .before .before .before .loop-test .taken)
     (c .before .before .before .before .before .before .u16-at2 .ensures) (c .before .before .before .before .u32-at .ensures) k (c .before .before .before .before .before .kind-of .ensures) (l .inv .4) _ (reads-told (payloadStart k size (l .p)) s (l .p) (ap payloadStep (c .before .e .given .1)) (reads-at (stays-start s k size (l .p)) _ (c .before .before .before .read-payload .ensures)))
 
 loop-again : tie.Need-loop-again Inv-loop μ-loop
@@ -63,7 +63,7 @@ loop-again c =
       q .0,
       l .inv .2,
       l .inv .3,
-      going-on s (c .before .before .before .before .before .before .before .before .before .before .before .before .u16-at .result) (l .p) (l .i) (l .tables) (c .before .before .before .before .before .before .before .u16-at2 .result) size (l .inv .2) (l .inv .1) (c .before .before .before .before .before .before .before .before .loop-test .taken)
+      row-done s (c .before .before .before .before .before .before .before .before .before .before .before .before .u16-at .result) (l .p) (l .i) (l .tables) (c .before .before .before .before .before .before .before .u16-at2 .result) size (l .inv .2) (l .inv .1) (c .before .before .before .before .before .before .before .before .loop-test .taken)
           (c .before .before .before .before .before .before .before .u16-at2 .ensures) (c .before .before .before .before .before .u32-at .ensures) k (c .before .before .before .before .before .before .kind-of .ensures) (l .inv .4)
           (v .0 .0) (v .0 .1 .0) (c .put .result) q (c .put .ensures),
     )
@@ -72,7 +72,7 @@ returns-4 : tie.Need-returns-4 Inv-loop μ-loop
 returns-4 c =
     let a = c .before .before .before .before .before .before .before .args in
     let l = c .before .loop in
-    going-end (now (a .s)) (c .before .before .before .before .u16-at .result) (l .p) (l .i) (l .tables) (c .loop-test .left) (l .inv .4)
+    all-done (now (a .s)) (c .before .before .before .before .u16-at .result) (l .p) (l .i) (l .tables) (c .loop-test .left) (l .inv .4)
 
 pub read-tables-spec : {M : Type 1} → statement M
 read-tables-spec =

@@ -27,15 +27,15 @@ returns-2 : tie.Need-returns-2
 returns-2 c =
     let a = c .before .before .before .before .args in
     let s = now (a .s) in
-    let w = wayOf (c .skip-var-names .result) in
-    way-at _ _ _ _ (of-kind (a .n) s (a .at) w (c .before .enum-told2 .given .1) (goes-map (many (a .n) (variable aside)) s ofVariables (a .at) w (variables-aside (keepIn 0 s) s (a .n) (a .at) (search needs) w (goes-at (stays-many _ (a .n) (stays-variable _ _)) _ (c .skip-var-names .ensures)))))
+    let w = wayOf (c .skip-variables .result) in
+    way-at _ _ _ _ (of-kind (a .n) s (a .at) w (c .before .enum-told2 .given .1) (goes-map (many (a .n) (variable aside)) s ofVariables (a .at) w (variables-aside (keepIn 0 s) s (a .n) (a .at) (search needs) w (goes-at (stays-many _ (a .n) (stays-variable _ _)) _ (c .skip-variables .ensures)))))
 
 returns-3 : tie.Need-returns-3
 returns-3 c =
     let a = c .before .before .before .before .args in
     let s = now (a .s) in
-    let w = wayOf (c .skip-func-names .result) in
-    way-at _ _ _ _ (of-kind (a .n) s (a .at) w (c .before .enum-told3 .given .1) (goes-map (many (a .n) (functionName aside)) s ofFunctions (a .at) w (functions-aside (keepIn 0 s) s (a .n) (a .at) (search needs) w (goes-at (stays-many _ (a .n) (stays-function _ _)) _ (c .skip-func-names .ensures)))))
+    let w = wayOf (c .skip-function-names .result) in
+    way-at _ _ _ _ (of-kind (a .n) s (a .at) w (c .before .enum-told3 .given .1) (goes-map (many (a .n) (functionName aside)) s ofFunctions (a .at) w (functions-aside (keepIn 0 s) s (a .n) (a .at) (search needs) w (goes-at (stays-many _ (a .n) (stays-function _ _)) _ (c .skip-function-names .ensures)))))
 
 returns-4 : tie.Need-returns-4
 returns-4 c =
@@ -55,8 +55,8 @@ returns-6 : tie.Need-returns-6
 returns-6 c =
     let a = c .before .before .before .before .args in
     let s = now (a .s) in
-    let w = wayOf (c .skip-enum-defs .result) in
-    way-at _ _ _ _ (of-kind (a .n) s (a .at) w (c .before .enum-told6 .given .1) (goes-map (many (a .n) (enumeration aside)) s ofEnumerations (a .at) w (enumerations-aside (keepIn 0 s) s (a .n) (a .at) (search needs) w (goes-at (stays-many _ (a .n) (stays-enumeration _ _)) _ (c .skip-enum-defs .ensures)))))
+    let w = wayOf (c .skip-enumerations .result) in
+    way-at _ _ _ _ (of-kind (a .n) s (a .at) w (c .before .enum-told6 .given .1) (goes-map (many (a .n) (enumeration aside)) s ofEnumerations (a .at) w (enumerations-aside (keepIn 0 s) s (a .n) (a .at) (search needs) w (goes-at (stays-many _ (a .n) (stays-enumeration _ _)) _ (c .skip-enumerations .ensures)))))
 
 returns-7 : tie.Need-returns-7
 returns-7 c =

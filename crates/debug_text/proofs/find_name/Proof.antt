@@ -1,4 +1,4 @@
--- `debug_text::find_name` meets its contract: behind the names before it stands the name.
+-- `debug_text::find_name` meets its contract: the names before it are skipped, then the name is read.
 use mathlib.Core.Path.{ap}
 use native.Mathlib.Omega.{arith}
 use Rattle.reading.proofs.Passing.{goes-told}

@@ -1,4 +1,4 @@
--- `debug_text::read_name` meets its contract: its length, and the text behind it.
+-- `debug_text::read_name` meets its contract: its length, then the text.
 use Prim.Native.Nat.{_+_}
 use native.Mathlib.Omega.{arith}
 use denote.Ref.{now}

@@ -5,7 +5,7 @@ use native.Mathlib.Nat.{add-sub-cancel-left}
 use native.Mathlib.Omega.{arith}
 use lib.ListN.{length, take, drop}
 use denote.Ref.{now}
-use Rattle.utf8.specs.Utf8.{goodLength}
+use Rattle.utf8.specs.Utf8.{validUpTo}
 use Rattle.reading.specs.Fault.{badText}
 use Rattle.reading.specs.Reader.{fault}
 use Rattle.reading.proofs.Given.{step-at}
@@ -15,8 +15,8 @@ use Rattle.debug_text.proofs.read_text.Statement.{statement}
 use Rattle.debug_text.proofs.read_text.Tie as tie
 
 -- the good start of the text
-good : (c : tie.After-good-length) → let a = c .before .before .before .before .args in c .good-length .result ≡ goodLength (take (a .n) (drop (a .at) (now (a .s))))
-good c = c .good-length .ensures ∙ simp add-sub-cancel-left
+good : (c : tie.After-valid-up-to) → let a = c .before .before .before .before .args in c .valid-up-to .result ≡ validUpTo (take (a .n) (drop (a .at) (now (a .s))))
+good c = c .valid-up-to .ensures ∙ simp add-sub-cancel-left
 
 returns : tie.Need-returns
 returns c = let a = c .before .before .args in step-at _ _ _ _ (text-short (a .base) (now (a .s)) (a .at) (a .n) (c .if1 .taken))

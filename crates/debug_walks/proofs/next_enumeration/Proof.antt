@@ -3,7 +3,7 @@ use mathlib.Core.Path.{sym, ap, subst, _∙_}
 use native.Mathlib.Omega.{arith}
 use denote.Ref.{now}
 use Rattle.base.specs.Section.{placeIn, partFrom, PartWithin}
-use Rattle.debug_entries.specs.Answers.{enumDefNext}
+use Rattle.debug_entries.specs.Answers.{enumerationWalk}
 use Rattle.debug_walks.proofs.Steps.{step-refused, entry-found}
 use borrow.Author.Needs.{needs}
 use Rattle.debug_walks.proofs.next_enumeration.Statement.{statement}
@@ -12,11 +12,11 @@ use Rattle.debug_walks.proofs.next_enumeration.Tie as tie
 add-end : tie.Need-add-end
 add-end c = omega (arith, subst (PartWithin _) (c .before .before .p .given .1) (c .before .before .before .before .debug-part .ensures .1))
 
-part-next-enum-def-end : tie.Need-part-next-enum-def-end
-part-next-enum-def-end c = omega (arith, subst (PartWithin _) (c .before .before .p .given .1) (c .before .before .before .before .debug-part .ensures .1))
+part-next-enumeration-in-end : tie.Need-part-next-enumeration-in-end
+part-next-enumeration-in-end c = omega (arith, subst (PartWithin _) (c .before .before .p .given .1) (c .before .before .before .before .debug-part .ensures .1))
 
-next-enum-def-requires : tie.Need-next-enum-def-requires
-next-enum-def-requires c κs = omega (arith, subst (PartWithin _) (c .before .before .before .p .given .1) (c .before .before .before .before .before .debug-part .ensures .1))
+next-enumeration-in-requires : tie.Need-next-enumeration-in-requires
+next-enumeration-in-requires c κs = omega (arith, subst (PartWithin _) (c .before .before .before .p .given .1) (c .before .before .before .before .before .debug-part .ensures .1))
 
 returns : tie.Need-returns
 returns c =
@@ -27,19 +27,19 @@ returns-2 : tie.Need-returns-2
 returns-2 c =
     let a = c .before .before .before .before .before .before .before .before .before .before .args in
     let k = ap partFrom (sym (c .before .before .before .before .before .before .p .given .1)) ∙ c .before .before .before .before .before .before .before .before .debug-part .ensures .0 in
-    entry-found (now (a .file)) (placeIn (a .section)) (a .t) k (ap enumDefNext (sym (c .enum-told .given .1)) ∙ c .before .before .next-enum-def .ensures)
+    entry-found (now (a .file)) (placeIn (a .section)) (a .t) k (ap enumerationWalk (sym (c .enum-told .given .1)) ∙ c .before .before .next-enumeration-in .ensures)
 
 returns-3 : tie.Need-returns-3
 returns-3 c =
     let a = c .before .before .before .before .before .before .before .before .before .before .args in
     let k = ap partFrom (sym (c .before .before .before .before .before .before .p .given .1)) ∙ c .before .before .before .before .before .before .before .before .debug-part .ensures .0 in
-    entry-found (now (a .file)) (placeIn (a .section)) (a .t) k (ap enumDefNext (sym (c .enum-told2 .given .1)) ∙ c .before .before .next-enum-def .ensures)
+    entry-found (now (a .file)) (placeIn (a .section)) (a .t) k (ap enumerationWalk (sym (c .enum-told2 .given .1)) ∙ c .before .before .next-enumeration-in .ensures)
 
 returns-4 : tie.Need-returns-4
 returns-4 c =
     let a = c .before .before .before .before .before .before .before .before .before .before .before .args in
     let k = ap partFrom (sym (c .before .before .before .before .before .before .before .p .given .1)) ∙ c .before .before .before .before .before .before .before .before .before .debug-part .ensures .0 in
-    entry-found (now (a .file)) (placeIn (a .section)) (a .t) k (ap enumDefNext (sym (c .before .x .given .1)) ∙ c .before .before .before .next-enum-def .ensures)
+    entry-found (now (a .file)) (placeIn (a .section)) (a .t) k (ap enumerationWalk (sym (c .before .x .given .1)) ∙ c .before .before .before .next-enumeration-in .ensures)
 
 pub next-enumeration-spec : {M : Type 1} → statement M
 next-enumeration-spec =
@@ -51,8 +51,8 @@ next-enumeration-spec =
     add-end
     (λ c. search needs)
     (λ c. search needs)
-    part-next-enum-def-end
-    next-enum-def-requires
+    part-next-enumeration-in-end
+    next-enumeration-in-requires
     (λ c. search needs)
     (λ c. search needs)
     (λ c. search needs)

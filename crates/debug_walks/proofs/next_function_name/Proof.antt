@@ -4,7 +4,7 @@ use native.Mathlib.Omega.{arith}
 use denote.Ref.{now}
 use Rattle.base.specs.Section.{placeIn, partFrom, PartWithin}
 use Rattle.format.specs.Debug.{functionName}
-use Rattle.debug_entries.specs.Answers.{funcNameNext}
+use Rattle.debug_entries.specs.Answers.{functionNameWalk}
 use Rattle.debug_walks.proofs.Steps.{step-refused, step-found}
 use borrow.Author.Needs.{needs}
 use Rattle.debug_walks.proofs.next_function_name.Statement.{statement}
@@ -13,11 +13,11 @@ use Rattle.debug_walks.proofs.next_function_name.Tie as tie
 add-end : tie.Need-add-end
 add-end c = omega (arith, subst (PartWithin _) (c .before .before .p .given .1) (c .before .before .before .before .debug-part .ensures .1))
 
-part-next-func-name-end : tie.Need-part-next-func-name-end
-part-next-func-name-end c = omega (arith, subst (PartWithin _) (c .before .before .p .given .1) (c .before .before .before .before .debug-part .ensures .1))
+part-next-function-name-in-end : tie.Need-part-next-function-name-in-end
+part-next-function-name-in-end c = omega (arith, subst (PartWithin _) (c .before .before .p .given .1) (c .before .before .before .before .debug-part .ensures .1))
 
-next-func-name-requires : tie.Need-next-func-name-requires
-next-func-name-requires c κs = omega (arith, subst (PartWithin _) (c .before .before .before .p .given .1) (c .before .before .before .before .before .debug-part .ensures .1))
+next-function-name-in-requires : tie.Need-next-function-name-in-requires
+next-function-name-in-requires c κs = omega (arith, subst (PartWithin _) (c .before .before .before .p .given .1) (c .before .before .before .before .before .debug-part .ensures .1))
 
 returns : tie.Need-returns
 returns c =
@@ -28,19 +28,19 @@ returns-2 : tie.Need-returns-2
 returns-2 c =
     let a = c .before .before .before .before .before .before .before .before .before .before .args in
     let k = ap partFrom (sym (c .before .before .before .before .before .before .p .given .1)) ∙ c .before .before .before .before .before .before .before .before .debug-part .ensures .0 in
-    step-found (now (a .file)) (placeIn (a .section)) functionName (a .t) k (ap funcNameNext (sym (c .enum-told .given .1)) ∙ c .before .before .next-func-name .ensures)
+    step-found (now (a .file)) (placeIn (a .section)) functionName (a .t) k (ap functionNameWalk (sym (c .enum-told .given .1)) ∙ c .before .before .next-function-name-in .ensures)
 
 returns-3 : tie.Need-returns-3
 returns-3 c =
     let a = c .before .before .before .before .before .before .before .before .before .before .args in
     let k = ap partFrom (sym (c .before .before .before .before .before .before .p .given .1)) ∙ c .before .before .before .before .before .before .before .before .debug-part .ensures .0 in
-    step-found (now (a .file)) (placeIn (a .section)) functionName (a .t) k (ap funcNameNext (sym (c .enum-told2 .given .1)) ∙ c .before .before .next-func-name .ensures)
+    step-found (now (a .file)) (placeIn (a .section)) functionName (a .t) k (ap functionNameWalk (sym (c .enum-told2 .given .1)) ∙ c .before .before .next-function-name-in .ensures)
 
 returns-4 : tie.Need-returns-4
 returns-4 c =
     let a = c .before .before .before .before .before .before .before .before .before .before .before .args in
     let k = ap partFrom (sym (c .before .before .before .before .before .before .before .p .given .1)) ∙ c .before .before .before .before .before .before .before .before .before .debug-part .ensures .0 in
-    step-found (now (a .file)) (placeIn (a .section)) functionName (a .t) k (ap funcNameNext (sym (c .before .x .given .1)) ∙ c .before .before .before .next-func-name .ensures)
+    step-found (now (a .file)) (placeIn (a .section)) functionName (a .t) k (ap functionNameWalk (sym (c .before .x .given .1)) ∙ c .before .before .before .next-function-name-in .ensures)
 
 pub next-function-name-spec : {M : Type 1} → statement M
 next-function-name-spec =
@@ -52,8 +52,8 @@ next-function-name-spec =
     add-end
     (λ c. search needs)
     (λ c. search needs)
-    part-next-func-name-end
-    next-func-name-requires
+    part-next-function-name-in-end
+    next-function-name-in-requires
     (λ c. search needs)
     (λ c. search needs)
     (λ c. search needs)

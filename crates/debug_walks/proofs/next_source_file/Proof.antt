@@ -4,7 +4,7 @@ use native.Mathlib.Omega.{arith}
 use denote.Ref.{now}
 use Rattle.base.specs.Section.{placeIn, partFrom, PartWithin}
 use Rattle.format.specs.Debug.{sourceFile}
-use Rattle.debug_entries.specs.Answers.{sourceFileNext}
+use Rattle.debug_entries.specs.Answers.{sourceFileWalk}
 use Rattle.debug_walks.proofs.Steps.{step-refused, step-found}
 use borrow.Author.Needs.{needs}
 use Rattle.debug_walks.proofs.next_source_file.Statement.{statement}
@@ -13,11 +13,11 @@ use Rattle.debug_walks.proofs.next_source_file.Tie as tie
 add-end : tie.Need-add-end
 add-end c = omega (arith, subst (PartWithin _) (c .before .before .p .given .1) (c .before .before .before .before .debug-part .ensures .1))
 
-part-next-source-file-end : tie.Need-part-next-source-file-end
-part-next-source-file-end c = omega (arith, subst (PartWithin _) (c .before .before .p .given .1) (c .before .before .before .before .debug-part .ensures .1))
+part-next-source-file-in-end : tie.Need-part-next-source-file-in-end
+part-next-source-file-in-end c = omega (arith, subst (PartWithin _) (c .before .before .p .given .1) (c .before .before .before .before .debug-part .ensures .1))
 
-next-source-file-requires : tie.Need-next-source-file-requires
-next-source-file-requires c κs = omega (arith, subst (PartWithin _) (c .before .before .before .p .given .1) (c .before .before .before .before .before .debug-part .ensures .1))
+next-source-file-in-requires : tie.Need-next-source-file-in-requires
+next-source-file-in-requires c κs = omega (arith, subst (PartWithin _) (c .before .before .before .p .given .1) (c .before .before .before .before .before .debug-part .ensures .1))
 
 returns : tie.Need-returns
 returns c =
@@ -28,19 +28,19 @@ returns-2 : tie.Need-returns-2
 returns-2 c =
     let a = c .before .before .before .before .before .before .before .before .before .before .args in
     let k = ap partFrom (sym (c .before .before .before .before .before .before .p .given .1)) ∙ c .before .before .before .before .before .before .before .before .debug-part .ensures .0 in
-    step-found (now (a .file)) (placeIn (a .section)) sourceFile (a .t) k (ap sourceFileNext (sym (c .enum-told .given .1)) ∙ c .before .before .next-source-file .ensures)
+    step-found (now (a .file)) (placeIn (a .section)) sourceFile (a .t) k (ap sourceFileWalk (sym (c .enum-told .given .1)) ∙ c .before .before .next-source-file-in .ensures)
 
 returns-3 : tie.Need-returns-3
 returns-3 c =
     let a = c .before .before .before .before .before .before .before .before .before .before .args in
     let k = ap partFrom (sym (c .before .before .before .before .before .before .p .given .1)) ∙ c .before .before .before .before .before .before .before .before .debug-part .ensures .0 in
-    step-found (now (a .file)) (placeIn (a .section)) sourceFile (a .t) k (ap sourceFileNext (sym (c .enum-told2 .given .1)) ∙ c .before .before .next-source-file .ensures)
+    step-found (now (a .file)) (placeIn (a .section)) sourceFile (a .t) k (ap sourceFileWalk (sym (c .enum-told2 .given .1)) ∙ c .before .before .next-source-file-in .ensures)
 
 returns-4 : tie.Need-returns-4
 returns-4 c =
     let a = c .before .before .before .before .before .before .before .before .before .before .before .args in
     let k = ap partFrom (sym (c .before .before .before .before .before .before .before .p .given .1)) ∙ c .before .before .before .before .before .before .before .before .before .debug-part .ensures .0 in
-    step-found (now (a .file)) (placeIn (a .section)) sourceFile (a .t) k (ap sourceFileNext (sym (c .before .x .given .1)) ∙ c .before .before .before .next-source-file .ensures)
+    step-found (now (a .file)) (placeIn (a .section)) sourceFile (a .t) k (ap sourceFileWalk (sym (c .before .x .given .1)) ∙ c .before .before .before .next-source-file-in .ensures)
 
 pub next-source-file-spec : {M : Type 1} → statement M
 next-source-file-spec =
@@ -52,8 +52,8 @@ next-source-file-spec =
     add-end
     (λ c. search needs)
     (λ c. search needs)
-    part-next-source-file-end
-    next-source-file-requires
+    part-next-source-file-in-end
+    next-source-file-in-requires
     (λ c. search needs)
     (λ c. search needs)
     (λ c. search needs)

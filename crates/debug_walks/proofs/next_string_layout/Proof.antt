@@ -4,7 +4,7 @@ use native.Mathlib.Omega.{arith}
 use denote.Ref.{now}
 use Rattle.base.specs.Section.{placeIn, partFrom, PartWithin}
 use Rattle.format.specs.Debug.{stringLayout}
-use Rattle.debug_entries.specs.Answers.{stringLayoutNext}
+use Rattle.debug_entries.specs.Answers.{stringLayoutWalk}
 use Rattle.debug_walks.proofs.Steps.{step-refused, step-found}
 use borrow.Author.Needs.{needs}
 use Rattle.debug_walks.proofs.next_string_layout.Statement.{statement}
@@ -13,8 +13,8 @@ use Rattle.debug_walks.proofs.next_string_layout.Tie as tie
 add-end : tie.Need-add-end
 add-end c = omega (arith, subst (PartWithin _) (c .before .before .p .given .1) (c .before .before .before .before .debug-part .ensures .1))
 
-part-next-string-layout-end : tie.Need-part-next-string-layout-end
-part-next-string-layout-end c = omega (arith, subst (PartWithin _) (c .before .before .p .given .1) (c .before .before .before .before .debug-part .ensures .1))
+part-next-string-layout-in-end : tie.Need-part-next-string-layout-in-end
+part-next-string-layout-in-end c = omega (arith, subst (PartWithin _) (c .before .before .p .given .1) (c .before .before .before .before .debug-part .ensures .1))
 
 returns : tie.Need-returns
 returns c =
@@ -25,19 +25,19 @@ returns-2 : tie.Need-returns-2
 returns-2 c =
     let a = c .before .before .before .before .before .before .before .before .before .before .args in
     let k = ap partFrom (sym (c .before .before .before .before .before .before .p .given .1)) ∙ c .before .before .before .before .before .before .before .before .debug-part .ensures .0 in
-    step-found (now (a .file)) (placeIn (a .section)) (λ keep. stringLayout) (a .t) k (ap stringLayoutNext (sym (c .enum-told .given .1)) ∙ c .before .before .next-string-layout .ensures)
+    step-found (now (a .file)) (placeIn (a .section)) (λ keep. stringLayout) (a .t) k (ap stringLayoutWalk (sym (c .enum-told .given .1)) ∙ c .before .before .next-string-layout-in .ensures)
 
 returns-3 : tie.Need-returns-3
 returns-3 c =
     let a = c .before .before .before .before .before .before .before .before .before .before .args in
     let k = ap partFrom (sym (c .before .before .before .before .before .before .p .given .1)) ∙ c .before .before .before .before .before .before .before .before .debug-part .ensures .0 in
-    step-found (now (a .file)) (placeIn (a .section)) (λ keep. stringLayout) (a .t) k (ap stringLayoutNext (sym (c .enum-told2 .given .1)) ∙ c .before .before .next-string-layout .ensures)
+    step-found (now (a .file)) (placeIn (a .section)) (λ keep. stringLayout) (a .t) k (ap stringLayoutWalk (sym (c .enum-told2 .given .1)) ∙ c .before .before .next-string-layout-in .ensures)
 
 returns-4 : tie.Need-returns-4
 returns-4 c =
     let a = c .before .before .before .before .before .before .before .before .before .before .before .args in
     let k = ap partFrom (sym (c .before .before .before .before .before .before .before .p .given .1)) ∙ c .before .before .before .before .before .before .before .before .before .debug-part .ensures .0 in
-    step-found (now (a .file)) (placeIn (a .section)) (λ keep. stringLayout) (a .t) k (ap stringLayoutNext (sym (c .before .x .given .1)) ∙ c .before .before .before .next-string-layout .ensures)
+    step-found (now (a .file)) (placeIn (a .section)) (λ keep. stringLayout) (a .t) k (ap stringLayoutWalk (sym (c .before .x .given .1)) ∙ c .before .before .before .next-string-layout-in .ensures)
 
 pub next-string-layout-spec : {M : Type 1} → statement M
 next-string-layout-spec =
@@ -49,7 +49,7 @@ next-string-layout-spec =
     add-end
     (λ c. search needs)
     (λ c. search needs)
-    part-next-string-layout-end
+    part-next-string-layout-in-end
     (λ c κs. search needs)
     (λ c. search needs)
     (λ c. search needs)

@@ -4,7 +4,7 @@ use native.Mathlib.Omega.{arith}
 use denote.Ref.{now}
 use Rattle.base.specs.Section.{placeIn, partFrom, PartWithin}
 use Rattle.format.specs.Debug.{variable}
-use Rattle.debug_entries.specs.Answers.{varNameNext}
+use Rattle.debug_entries.specs.Answers.{variableWalk}
 use Rattle.debug_walks.proofs.Steps.{step-refused, step-found}
 use borrow.Author.Needs.{needs}
 use Rattle.debug_walks.proofs.next_variable.Statement.{statement}
@@ -13,11 +13,11 @@ use Rattle.debug_walks.proofs.next_variable.Tie as tie
 add-end : tie.Need-add-end
 add-end c = omega (arith, subst (PartWithin _) (c .before .before .p .given .1) (c .before .before .before .before .debug-part .ensures .1))
 
-part-next-var-name-end : tie.Need-part-next-var-name-end
-part-next-var-name-end c = omega (arith, subst (PartWithin _) (c .before .before .p .given .1) (c .before .before .before .before .debug-part .ensures .1))
+part-next-variable-in-end : tie.Need-part-next-variable-in-end
+part-next-variable-in-end c = omega (arith, subst (PartWithin _) (c .before .before .p .given .1) (c .before .before .before .before .debug-part .ensures .1))
 
-next-var-name-requires : tie.Need-next-var-name-requires
-next-var-name-requires c κs = omega (arith, subst (PartWithin _) (c .before .before .before .p .given .1) (c .before .before .before .before .before .debug-part .ensures .1))
+next-variable-in-requires : tie.Need-next-variable-in-requires
+next-variable-in-requires c κs = omega (arith, subst (PartWithin _) (c .before .before .before .p .given .1) (c .before .before .before .before .before .debug-part .ensures .1))
 
 returns : tie.Need-returns
 returns c =
@@ -28,19 +28,19 @@ returns-2 : tie.Need-returns-2
 returns-2 c =
     let a = c .before .before .before .before .before .before .before .before .before .before .args in
     let k = ap partFrom (sym (c .before .before .before .before .before .before .p .given .1)) ∙ c .before .before .before .before .before .before .before .before .debug-part .ensures .0 in
-    step-found (now (a .file)) (placeIn (a .section)) variable (a .t) k (ap varNameNext (sym (c .enum-told .given .1)) ∙ c .before .before .next-var-name .ensures)
+    step-found (now (a .file)) (placeIn (a .section)) variable (a .t) k (ap variableWalk (sym (c .enum-told .given .1)) ∙ c .before .before .next-variable-in .ensures)
 
 returns-3 : tie.Need-returns-3
 returns-3 c =
     let a = c .before .before .before .before .before .before .before .before .before .before .args in
     let k = ap partFrom (sym (c .before .before .before .before .before .before .p .given .1)) ∙ c .before .before .before .before .before .before .before .before .debug-part .ensures .0 in
-    step-found (now (a .file)) (placeIn (a .section)) variable (a .t) k (ap varNameNext (sym (c .enum-told2 .given .1)) ∙ c .before .before .next-var-name .ensures)
+    step-found (now (a .file)) (placeIn (a .section)) variable (a .t) k (ap variableWalk (sym (c .enum-told2 .given .1)) ∙ c .before .before .next-variable-in .ensures)
 
 returns-4 : tie.Need-returns-4
 returns-4 c =
     let a = c .before .before .before .before .before .before .before .before .before .before .before .args in
     let k = ap partFrom (sym (c .before .before .before .before .before .before .before .p .given .1)) ∙ c .before .before .before .before .before .before .before .before .before .debug-part .ensures .0 in
-    step-found (now (a .file)) (placeIn (a .section)) variable (a .t) k (ap varNameNext (sym (c .before .x .given .1)) ∙ c .before .before .before .next-var-name .ensures)
+    step-found (now (a .file)) (placeIn (a .section)) variable (a .t) k (ap variableWalk (sym (c .before .x .given .1)) ∙ c .before .before .before .next-variable-in .ensures)
 
 pub next-variable-spec : {M : Type 1} → statement M
 next-variable-spec =
@@ -52,8 +52,8 @@ next-variable-spec =
     add-end
     (λ c. search needs)
     (λ c. search needs)
-    part-next-var-name-end
-    next-var-name-requires
+    part-next-variable-in-end
+    next-variable-in-requires
     (λ c. search needs)
     (λ c. search needs)
     (λ c. search needs)

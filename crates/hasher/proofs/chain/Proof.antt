@@ -1,8 +1,9 @@
--- `hasher::chain` meets its contract. The loop's invariant: the blocks that are left, from the present chaining value, give the result.
+-- `hasher::chain` meets its contract. The loop's invariant: the blocks that are left, from the present chaining value on, give the result.
 -- Assumes nothing.
 use mathlib.Core.Path.{_≡_, _∙_}
 use Prim.Native.Nat.{_+_, _*_, _-_, _≤_}
 use lib.ListN.{drop}
+use Rattle.compression.specs.Sizes.{blockLen}
 use Rattle.compression.specs.Chain.{chained}
 use Rattle.compression.proofs.Chain.{begins, turn, ends}
 use borrow.Author.Needs.{needs}
@@ -10,7 +11,7 @@ use Rattle.hasher.proofs.chain.Statement.{statement}
 use Rattle.hasher.proofs.chain.Tie as tie
 
 abbrev Inv-loop : tie.InvT-loop
-Inv-loop s at n t blocks c₀ i₀ c i = (i ≤ n) × (chained (n - i) c t (blocks + i) (drop (at + 64 * i) s) ≡ chained n c₀ t blocks (drop at s))
+Inv-loop s at n t blocks c₀ i₀ c i = (i ≤ n) × (chained (n - i) c t (blocks + i) (drop (at + blockLen * i) s) ≡ chained n c₀ t blocks (drop at s))
 
 abbrev μ-loop : tie.MeasureT-loop
 μ-loop s at n t blocks c₀ i₀ c i = n - i
@@ -46,6 +47,7 @@ chain-spec =
     (λ c. search needs)
     (λ c. search needs)
     (λ c κs. search needs)
+    (λ c. search needs)
     (λ c κs. search needs)
     (λ c. search needs)
     (λ c. search needs)

@@ -9,7 +9,7 @@ use borrow.Author.Needs.{needs}
 use Rattle.header.proofs.from_bytes.Statement.{statement}
 use Rattle.header.proofs.from_bytes.Tie as tie
 
--- behind the first test the header is there
+-- after the first test there is a whole header
 long : (c : tie.Else1) → 256 ≤ length (now (c .before .before .args .file))
 long c = omega arith
 

@@ -1,4 +1,4 @@
--- `header::has_types` meets its contract: it is that test.
+-- `header::has_types` meets its contract: it is the test of `typesFlag`.
 use mathlib.Core.Path.{refl}
 use Rattle.header.proofs.has_types.Statement.{statement}
 use Rattle.header.proofs.has_types.Tie as tie

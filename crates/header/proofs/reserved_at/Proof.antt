@@ -1,4 +1,4 @@
--- `header::reserved_at` meets its contract: the bytes of numbers that stand one behind the other are the bytes there.
+-- `header::reserved_at` meets its contract: the bytes of numbers, one after the other, are the bytes there.
 use native.Mathlib.Omega.{arith}
 use denote.Ref.{now}
 use Rattle.reading.proofs.Le.{Bytes}

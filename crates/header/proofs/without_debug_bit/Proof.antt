@@ -1,4 +1,4 @@
--- `header::without_debug_bit` meets its contract: where the bit is set there is as much to take away.
+-- `header::without_debug_bit` meets its contract: where the bit is set, there is enough to subtract.
 use borrow.Author.Needs.{needs}
 use native.Mathlib.Omega.{arith}
 use Rattle.header.proofs.without_debug_bit.Statement.{statement}

@@ -5,7 +5,7 @@ use Prim.Native.Nat.{_+_, _*_, _-_, _≤_}
 use native.Mathlib.Omega.{arith}
 use borrow.Author.Tests.{eq-eqb, ne-eqb}
 use Rattle.line_map.specs.Answers.{maybeLine}
-use Rattle.line_map.specs.Lookups.{choiceIn}
+use Rattle.line_map.specs.Lookups.{lineMapEntrySize, choiceIn}
 use Rattle.line_map.proofs.Choosing.{choiceBehind, choice-start, choice-end, choice-above, choice-more}
 use borrow.Author.Needs.{needs}
 use Rattle.line_map.proofs.choose.Statement.{statement}
@@ -13,7 +13,7 @@ use Rattle.line_map.proofs.choose.Tie as tie
 
 abbrev Inv-loop : tie.InvT-loop
 Inv-loop s at n function-id bytecode-offset i₀ best₀ i best =
-    (i ≤ n) × (choiceBehind (function-id .0) bytecode-offset (maybeLine best) s (at + 10 * i) (n - i) ≡ choiceIn s at n (function-id .0) bytecode-offset)
+    (i ≤ n) × (choiceBehind (function-id .0) bytecode-offset (maybeLine best) s (at + lineMapEntrySize * i) (n - i) ≡ choiceIn s at n (function-id .0) bytecode-offset)
 
 abbrev μ-loop : tie.MeasureT-loop
 μ-loop s at n function-id bytecode-offset i₀ best₀ i best = n - i

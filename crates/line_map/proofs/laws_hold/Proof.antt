@@ -1,4 +1,4 @@
--- `line_map::laws_hold` has no code: its contract is what `proofs/Laws.antt` proves.
+-- `line_map::laws_hold` meets its contract: the laws of `proofs/Laws.antt`.
 use Rattle.line_map.proofs.Laws.{laws}
 use Rattle.line_map.proofs.laws_hold.Statement.{statement}
 use Rattle.line_map.proofs.laws_hold.Tie as tie

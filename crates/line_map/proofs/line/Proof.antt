@@ -1,4 +1,4 @@
--- `line_map::line` meets its contract: entries are 10 bytes wide, so the one of index k stands at 10 times k.
+-- `line_map::line` meets its contract: all entries have one size, so entry k stands at k times that.
 use native.Mathlib.Omega.{arith}
 use Rattle.line_map.proofs.Entries.{in-short, line-out, line-found, fit-told, short-told}
 use borrow.Author.Needs.{needs}

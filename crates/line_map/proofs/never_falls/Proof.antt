@@ -3,14 +3,14 @@ use mathlib.Core.Path.{_≡_, sym, _∙_}
 use Prim.Native.Nat.{_+_, _*_, _-_, _≤_}
 use native.Mathlib.Omega.{arith}
 use Rattle.line_map.specs.Answers.{lineIn}
-use Rattle.line_map.specs.Lookups.{sortedIn}
+use Rattle.line_map.specs.Lookups.{lineMapEntrySize, sortedIn}
 use Rattle.line_map.proofs.Sorting.{sortedBehind, sorted-none, sorted-start, sorted-end, sorted-more, sorted-not}
 use borrow.Author.Needs.{needs}
 use Rattle.line_map.proofs.never_falls.Statement.{statement}
 use Rattle.line_map.proofs.never_falls.Tie as tie
 
 abbrev Inv-loop : tie.InvT-loop
-Inv-loop s at n last₀ i₀ last i = (i ≤ n) × (sortedBehind (lineIn last) s (at + 10 * i) (n - i) ≡ sortedIn s at n)
+Inv-loop s at n last₀ i₀ last i = (i ≤ n) × (sortedBehind (lineIn last) s (at + lineMapEntrySize * i) (n - i) ≡ sortedIn s at n)
 
 abbrev μ-loop : tie.MeasureT-loop
 μ-loop s at n last₀ i₀ last i = n - i

@@ -1,4 +1,4 @@
--- `line_steps::put_next_constant` meets its contract: it answers what the walk does, with the line of the constant's own bytes.
+-- `line_steps::put_next_constant` meets its contract: it returns what the walk gives, with the line of the constant's own bytes.
 use mathlib.Core.Path.{refl, subst}
 use denote.Ref.{now}
 use lib.ListN.{length}

@@ -4,8 +4,8 @@ use mathlib.Core.Path.{refl, subst, _∙_}
 use native.Mathlib.Omega.{arith}
 use denote.Ref.{now}
 use Rattle.base.specs.Section.{placeIn}
-use Rattle.text.proofs.Putting.{wrote-length}
-use Rattle.text.proofs.Fitting.{puts-none}
+use Rattle.lent.proofs.Writing.{wrote-length}
+use Rattle.lent.proofs.Fitting.{free-none}
 use Rattle.line_steps.specs.Steps.{nextLineAt}
 use Rattle.line_steps.specs.Answers.{PutsNext}
 use Rattle.line_steps.proofs.Stepping.{next-full, next-end, next-put}
@@ -17,14 +17,14 @@ use Rattle.table_lines.proofs.put_entries.Statement.{statement}
 use Rattle.table_lines.proofs.put_entries.Tie as tie
 
 abbrev Inv-loop : tie.InvT-loop
-Inv-loop out₀ at file section listed rest₀ index₀ next₀ out rest index next =
-    Left (nextLineAt listed file (placeIn section)) out₀ at (entriesText listed file (placeIn section) rest₀) out index next rest × (index + rest .count ≤ rest₀ .count)
+Inv-loop out₀ at file section kind rest₀ index₀ next₀ out rest index next =
+    Left (nextLineAt kind file (placeIn section)) out₀ at (entriesText kind file (placeIn section) rest₀) out index next rest × (index + rest .count ≤ rest₀ .count)
 
 abbrev μ-loop : tie.MeasureT-loop
-μ-loop out₀ at file section listed rest₀ index₀ next₀ out rest index next = rest .count
+μ-loop out₀ at file section kind rest₀ index₀ next₀ out rest index next = rest .count
 
 returns : tie.Need-returns Inv-loop μ-loop
-returns c = puts-none _ _ _ (omega arith) refl
+returns c = free-none _ _ _ (omega arith) refl
 
 loop-holds : tie.Need-loop-holds Inv-loop μ-loop
 loop-holds c = (left-start (omega arith) refl, omega arith)
@@ -49,14 +49,14 @@ loop-less : tie.Need-loop-less Inv-loop μ-loop
 loop-less c =
     let a = c .before .before .before .before .before .before .before .before .before .before .before .before .before .args in
     let n = next-put _ _ _ _ _ _ (subst (PutsNext _ _ _ _) (c .before .n .given .1) (c .before .before .before .before .before .put-next .ensures)) in
-    omega (arith, falls (now (a .file)) (placeIn (a .section)) (a .listed) _ _ _ _ (n .answers))
+    omega (arith, falls (now (a .file)) (placeIn (a .section)) (a .kind) _ _ _ _ (n .answers))
 
 loop-again : tie.Need-loop-again Inv-loop μ-loop
 loop-again c =
     let a = c .before .before .before .before .before .before .before .before .before .before .before .before .before .args in
     let l = c .before .before .before .before .before .before .before .before .before .loop .inv in
     let n = next-put _ _ _ _ _ _ (subst (PutsNext _ _ _ _) (c .before .n .given .1) (c .before .before .before .before .before .put-next .ensures)) in
-    let fall = falls (now (a .file)) (placeIn (a .section)) (a .listed) in
+    let fall = falls (now (a .file)) (placeIn (a .section)) (a .kind) in
     (left-more (l .0) (omega arith) (n .answers) fall (n .wrote), omega (arith, fall _ _ _ _ (n .answers)))
 
 same-length-3 : tie.Need-same-length-3 Inv-loop μ-loop

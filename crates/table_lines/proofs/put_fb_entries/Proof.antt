@@ -5,9 +5,9 @@ use mathlib.Core.List.{List}
 use native.Mathlib.Omega.{arith}
 use denote.Ref.{now}
 use Rattle.base.specs.Section.{placeIn}
-use Rattle.text.specs.Text.{Puts}
-use Rattle.text.proofs.Putting.{wrote-length}
-use Rattle.text.proofs.Fitting.{puts-none, puts-at}
+use Rattle.lent.specs.Output.{PutsRestFree}
+use Rattle.lent.proofs.Writing.{wrote-length}
+use Rattle.lent.proofs.Fitting.{free-none, free-at}
 use Rattle.type_section.specs.Answers.{fbTypeNextFrom}
 use Rattle.type_section.specs.Lookups.{FbTypeEntry}
 use Rattle.line_steps.specs.Steps.{lined}
@@ -26,7 +26,7 @@ abbrev μ-loop : tie.MeasureT-loop
 μ-loop out₀ at file section rest₀ next₀ out rest next = rest .count
 
 returns : tie.Need-returns Inv-loop μ-loop
-returns c = puts-none _ _ _ (omega arith) refl
+returns c = free-none _ _ _ (omega arith) refl
 
 loop-holds : tie.Need-loop-holds Inv-loop μ-loop
 loop-holds c = (0, left-start (omega arith) refl)
@@ -51,7 +51,7 @@ returns-4 c =
     let a = c .before .before .before .before .before .before .before .before .before .before .before .before .before .before .before .before .args in
     let line : FbTypeEntry → List ℕ = λ b. fbTypeText (now (a .file)) (placeIn (a .section)) (b .head) (b .fields) in
     let e = ap (λ x. lined x line) (sym (c .before .before .before .before .before .before .before .before .before .next-fb-type .ensures) ∙ ap fbTypeNextFrom (c .before .before .before .before .before .before .before .head .given .1)) in
-    left-full (c .before .before .before .before .before .before .before .before .before .before .before .before .loop .inv .1) (omega arith) e (subst (Puts _ _ _ _) (c .enum-told3 .given .1) (c .before .before .before .before .put-with-fields .ensures))
+    left-full (c .before .before .before .before .before .before .before .before .before .before .before .before .loop .inv .1) (omega arith) e (subst (PutsRestFree _ _ _ _) (c .enum-told3 .given .1) (c .before .before .before .before .put-with-fields .ensures))
 
 loop-less : tie.Need-loop-less Inv-loop μ-loop
 loop-less c =
@@ -66,7 +66,7 @@ loop-again c =
     let a = c .before .before .before .before .before .before .before .before .before .before .before .before .before .before .before .before .before .args in
     let line : FbTypeEntry → List ℕ = λ b. fbTypeText (now (a .file)) (placeIn (a .section)) (b .head) (b .fields) in
     let e = ap (λ x. lined x line) (sym (c .before .before .before .before .before .before .before .before .before .before .next-fb-type .ensures) ∙ ap fbTypeNextFrom (c .before .before .before .before .before .before .before .before .head .given .1)) in
-    let w = puts-at (subst (Puts _ _ _ _) (c .before .n .given .1) (c .before .before .before .before .before .put-with-fields .ensures)) in
+    let w = free-at (subst (PutsRestFree _ _ _ _) (c .before .n .given .1) (c .before .before .before .before .before .put-with-fields .ensures)) in
     (_, left-more (c .before .before .before .before .before .before .before .before .before .before .before .before .before .loop .inv .1) (omega arith) e (fb-types-fall (now (a .file)) (placeIn (a .section))) w)
 
 same-length-4 : tie.Need-same-length-4 Inv-loop μ-loop

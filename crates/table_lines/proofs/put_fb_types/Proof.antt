@@ -1,6 +1,6 @@
 -- `table_lines::put_fb_types` meets its contract: no text, or that of the FB types.
 use denote.Ref.{now}
-use Rattle.text.proofs.Fitting.{line-puts}
+use Rattle.lent.proofs.Fitting.{puts-free}
 use Rattle.record.specs.Answers.{containerIn}
 use Rattle.table_lines.proofs.Starts.{fb-types-start}
 use borrow.Author.Needs.{needs}
@@ -10,7 +10,7 @@ use Rattle.table_lines.proofs.put_fb_types.Tie as tie
 returns : tie.Need-returns
 returns c =
     let a = c .before .before .before .before .before .before .before .before .before .before .args in
-    rw (← fb-types-start (now (a .file)) (containerIn (a .c)), ← c .before .before .before .before .before .before .before .fb-types .ensures, c .before .before .before .before .before .enum-told .given .1) (line-puts (c .before .before .put-text .ensures))
+    rw (← fb-types-start (now (a .file)) (containerIn (a .c)), ← c .before .before .before .before .before .before .before .fb-types .ensures, c .before .before .before .before .before .enum-told .given .1) (puts-free (c .before .before .put-text .ensures))
 
 returns-2 : tie.Need-returns-2
 returns-2 c =

@@ -1,11 +1,11 @@
 -- `table_lines::put_from` meets its contract: no text, or that of the entries.
-use Rattle.text.proofs.Fitting.{line-puts}
+use Rattle.lent.proofs.Fitting.{puts-free}
 use borrow.Author.Needs.{needs}
 use Rattle.table_lines.proofs.put_from.Statement.{statement}
 use Rattle.table_lines.proofs.put_from.Tie as tie
 
 returns : tie.Need-returns
-returns c = rw (c .before .before .before .before .before .enum-told .given .1) (line-puts (c .before .before .put-text .ensures))
+returns c = rw (c .before .before .before .before .before .enum-told .given .1) (puts-free (c .before .before .put-text .ensures))
 
 returns-2 : tie.Need-returns-2
 returns-2 c = rw (c .before .before .before .before .before .start .given .1) (c .before .before .put-entries .ensures)

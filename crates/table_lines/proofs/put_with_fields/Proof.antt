@@ -2,9 +2,9 @@
 use mathlib.Core.Path.{subst}
 use denote.Ref.{now}
 use Rattle.base.specs.Section.{placeIn}
-use Rattle.text.specs.Text.{PutsLine}
-use Rattle.text.proofs.Fitting.{line-at, line-puts, puts-stop, wrote-puts}
-use Rattle.line_steps.specs.declared.Listed.the-variants as listed
+use Rattle.lent.specs.Output.{Puts}
+use Rattle.lent.proofs.Fitting.{puts-at, puts-free, free-stop, wrote-free}
+use Rattle.line_steps.specs.declared.EntryKind.the-variants as kind
 use Rattle.table_lines.specs.Walks.{entriesText}
 use borrow.Author.Needs.{needs}
 use Rattle.table_lines.proofs.put_with_fields.Statement.{statement}
@@ -13,12 +13,12 @@ use Rattle.table_lines.proofs.put_with_fields.Tie as tie
 returns : tie.Need-returns
 returns c =
     let a = c .before .before .before .before .before .before .before .before .args in
-    puts-stop (entriesText listed.Fields (now (a .file)) (placeIn (a .section)) (a .fields))
-    (line-puts (subst (PutsLine _ _ _ _) (c .enum-told .given .1) (c .before .before .before .before .put-fb-type .ensures)))
+    free-stop (entriesText kind.Fields (now (a .file)) (placeIn (a .section)) (a .fields))
+    (puts-free (subst (Puts _ _ _ _) (c .enum-told .given .1) (c .before .before .before .before .put-fb-type .ensures)))
 
 returns-2 : tie.Need-returns-2
 returns-2 c =
-    wrote-puts (line-at (subst (PutsLine _ _ _ _) (c .before .before .before .before .before .n .given .1) (c .before .before .before .before .before .before .before .before .before .put-fb-type .ensures))) (c .before .before .put-entries .ensures)
+    wrote-free (puts-at (subst (Puts _ _ _ _) (c .before .before .before .before .before .n .given .1) (c .before .before .before .before .before .before .before .before .before .put-fb-type .ensures))) (c .before .before .put-entries .ensures)
 
 pub put-with-fields-spec : {M : Type 1} → statement M
 put-with-fields-spec =

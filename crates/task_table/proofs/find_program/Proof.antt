@@ -5,6 +5,7 @@ use native.Mathlib.Omega.{arith}
 use denote.Ref.{now}
 use Rattle.format.specs.Lookups.{programOf}
 use Rattle.base.specs.Error.{faultOf}
+use Rattle.task_table.specs.Lookups.{taskTableHeaderSize, taskEntrySize}
 use Rattle.task_table.specs.Answers.{taskCountsIn}
 use Rattle.task_table.proofs.Tables.{counts-refused, program-out, program-fits, program-found}
 use borrow.Author.Needs.{needs}
@@ -12,7 +13,7 @@ use Rattle.task_table.proofs.find_program.Statement.{statement}
 use Rattle.task_table.proofs.find_program.Tie as tie
 
 -- where the programs start
-first : (c : tie.After-program-entries) → c .program-entries .result .at ≡ 6 + 32 * c .before .before .before .before .counts .given .0 .0 .tasks
+first : (c : tie.After-program-entries) → c .program-entries .result .at ≡ taskTableHeaderSize + taskEntrySize * c .before .before .before .before .counts .given .0 .0 .tasks
 first c = ap (λ t. t .at) (c .program-entries .ensures)
 
 returns : tie.Need-returns

@@ -1,4 +1,4 @@
--- `task_table::program_at` meets its contract: a number to each field.
+-- `task_table::program_at` meets its contract: one number for each field.
 use denote.Ref.{now}
 use Rattle.task_table.proofs.Entries.{program-whole}
 use borrow.Author.Needs.{needs}

@@ -1,4 +1,4 @@
--- `task_table::task_at` meets its contract: a number to each field.
+-- `task_table::task_at` meets its contract: one number for each field.
 use denote.Ref.{now}
 use native.Mathlib.Omega.{arith}
 use Rattle.reading.proofs.Le.{Bytes}

@@ -1,4 +1,4 @@
--- `text::put_digits` meets its contract. The measure is how many digits it may still put.
+-- `text::put_digits` meets its contract. The measure is how many digits it may still write.
 use Prim.Native.Nat.{ℕ, _+_, _<_, _≤_, _-_, _/_}
 use mathlib.Core.Path.{_≡_, ap, _∙_}
 use lib.ListN.{length, length-append}
@@ -7,8 +7,9 @@ use native.Mathlib.Omega.{arith}
 use borrow.Author.Needs.{needs}
 use borrow.Fn.Kinds.{In}
 use borrow.Fn.PlainCycle.{Measures, is, falls, and}
-use Rattle.text.proofs.Putting.{wrote-none, wrote-then, put-none, put-one, put-more}
-use Rattle.text.proofs.put_byte.Reads as put-byte
+use Rattle.lent.proofs.Writing.{wrote-none, wrote-then}
+use Rattle.text.proofs.Parts.{put-none, put-one, put-more}
+use Rattle.lent.proofs.put_byte.Reads as put-byte
 use Rattle.text.proofs.put_digits.Reads as put-digits
 use Rattle.text.proofs.put_digits.Kinds as kinds
 use Rattle.text.proofs.+put_digits.Lts-put_digits as lts

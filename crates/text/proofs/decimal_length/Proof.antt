@@ -6,7 +6,7 @@ use Prim.Native.Char.{code}
 use native.Mathlib.Omega.{arith}
 use lib.ListN.{length, length-append}
 use Rattle.text.specs.Text.{digits, decimal}
-use Rattle.text.proofs.Putting.{put-none, put-one, put-more}
+use Rattle.text.proofs.Parts.{put-none, put-one, put-more}
 use borrow.Author.Needs.{needs}
 use Rattle.text.proofs.decimal_length.Statement.{statement}
 use Rattle.text.proofs.decimal_length.Tie as tie

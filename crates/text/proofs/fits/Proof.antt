@@ -6,7 +6,7 @@ use borrow.Author.Tests.{le-leb}
 use denote.Ref.{now}
 use lib.ListN.{length}
 use Rattle.text.specs.Text.{numbers}
-use Rattle.text.proofs.Putting.{numbers-short}
+use Rattle.text.proofs.Parts.{numbers-short}
 use borrow.Author.Needs.{needs}
 use Rattle.text.proofs.fits.Statement.{statement}
 use Rattle.text.proofs.fits.Tie as tie

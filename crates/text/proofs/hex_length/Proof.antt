@@ -3,7 +3,7 @@ use mathlib.Core.Path.{ap}
 use native.Mathlib.Omega.{arith}
 use denote.Ref.{now}
 use lib.ListN.{length}
-use Rattle.text.proofs.Putting.{hex-none, hex-some, hexes-length}
+use Rattle.text.proofs.Parts.{hex-none, hex-some, hexes-length}
 use borrow.Author.Needs.{needs}
 use Rattle.text.proofs.hex_length.Statement.{statement}
 use Rattle.text.proofs.hex_length.Tie as tie

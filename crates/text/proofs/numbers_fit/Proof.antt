@@ -7,7 +7,7 @@ use denote.Ref.{now}
 use lib.ListN.{length, take, getD}
 use lib.Seq.{take-all}
 use Rattle.text.specs.Text.{numbers}
-use Rattle.text.proofs.Putting.{numbers-part, numbers-next, digits-short}
+use Rattle.text.proofs.Parts.{numbers-part, numbers-next, digits-short}
 use borrow.Author.Needs.{needs}
 use Rattle.text.proofs.numbers_fit.Statement.{statement}
 use Rattle.text.proofs.numbers_fit.Tie as tie

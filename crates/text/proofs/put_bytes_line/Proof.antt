@@ -1,4 +1,4 @@
--- `text::put_bytes_line` meets its contract: the text is put if it fits.
+-- `text::put_bytes_line` meets its contract: the text is written if it fits.
 use Prim.Native.Nat.{_+_}
 use mathlib.Core.Path.{sym, _∙_}
 use native.Mathlib.Omega.{arith}
@@ -6,8 +6,9 @@ use borrow.Author.Tests.{leb-true, leb-false}
 use denote.Ref.{now}
 use lib.ListN.{length}
 use Rattle.text.specs.Text.{ascii, numbers}
-use Rattle.text.proofs.Putting.{wrote-then, ended-length, bytes-line-length, hex-least, hex-most}
-use Rattle.text.proofs.Fitting.{line-none, line-wrote}
+use Rattle.lent.proofs.Writing.{wrote-then}
+use Rattle.text.proofs.Parts.{ended-length, bytes-line-length, hex-least, hex-most}
+use Rattle.lent.proofs.Fitting.{puts-none, puts-wrote}
 use borrow.Author.Needs.{needs}
 use Rattle.text.proofs.put_bytes_line.Statement.{statement}
 use Rattle.text.proofs.put_bytes_line.Tie as tie
@@ -15,7 +16,7 @@ use Rattle.text.proofs.put_bytes_line.Tie as tie
 returns : tie.Need-returns
 returns c =
     let a = c .before .before .before .before .before .args in
-    line-none _ _ _ (omega (arith, bytes-line-length (now (a .word)) (now (a .ns)) (now (a .bytes)), hex-least (now (a .bytes))))
+    puts-none _ _ _ (omega (arith, bytes-line-length (now (a .word)) (now (a .ns)) (now (a .bytes)), hex-least (now (a .bytes))))
 
 add-end : tie.Need-add-end
 add-end c = omega (arith, hex-most (now (c .before .before .before .before .before .before .args .bytes)) 18446744073709551613 (omega arith) (omega arith))
@@ -51,7 +52,7 @@ put-byte-requires c κs =
     omega (arith, leb-true (a .at + n) (length (now (a .out))) (sym (c .before .before .before .before .before .before .before .before .before .before .before .fits2 .ensures) ∙ c .before .before .before .before .before .before .before .before .before .before .if2 .taken), ended-length word ns (ascii " "))
 
 returns-2 : tie.Need-returns-2
-returns-2 c = line-wrote (wrote-then (wrote-then (c .before .before .before .before .before .before .before .before .before .before .put-ended .ensures) (c .before .before .before .before .before .before .put-hex-or-dash .ensures)) (c .before .before .put-byte .ensures))
+returns-2 c = puts-wrote (wrote-then (wrote-then (c .before .before .before .before .before .before .before .before .before .before .put-ended .ensures) (c .before .before .before .before .before .before .put-hex-or-dash .ensures)) (c .before .before .put-byte .ensures))
 
 returns-3 : tie.Need-returns-3
 returns-3 c =
@@ -61,7 +62,7 @@ returns-3 c =
     let bytes = now (a .bytes) in
     let n = length word + length (numbers ns) + (c .before .before .hex-length .result + 2) in
     let h = c .before .before .hex-length .ensures in
-    line-none _ _ _ (omega (arith, leb-false (a .at + n) (length (now (a .out))) (sym (c .before .fits2 .ensures) ∙ c .if2 .left), bytes-line-length word ns bytes))
+    puts-none _ _ _ (omega (arith, leb-false (a .at + n) (length (now (a .out))) (sym (c .before .fits2 .ensures) ∙ c .if2 .left), bytes-line-length word ns bytes))
 
 pub put-bytes-line-spec : {M : Type 1} → statement M
 put-bytes-line-spec =

@@ -2,7 +2,8 @@
 use native.Mathlib.Omega.{arith}
 use borrow.Author.Needs.{needs}
 use denote.Ref.{now}
-use Rattle.text.proofs.Putting.{wrote-then, ended-length}
+use Rattle.lent.proofs.Writing.{wrote-then}
+use Rattle.text.proofs.Parts.{ended-length}
 use Rattle.text.proofs.put_ended.Statement.{statement}
 use Rattle.text.proofs.put_ended.Tie as tie
 

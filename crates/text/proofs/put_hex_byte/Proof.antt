@@ -1,6 +1,6 @@
 -- `text::put_hex_byte` meets its contract.
 use borrow.Author.Needs.{needs}
-use Rattle.text.proofs.Putting.{wrote-then}
+use Rattle.lent.proofs.Writing.{wrote-then}
 use Rattle.text.proofs.put_hex_byte.Statement.{statement}
 use Rattle.text.proofs.put_hex_byte.Tie as tie
 

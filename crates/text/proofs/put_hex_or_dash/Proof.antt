@@ -4,7 +4,7 @@ use native.Mathlib.Omega.{arith}
 use denote.Ref.{now}
 use lib.ListN.{length}
 use borrow.Author.Needs.{needs}
-use Rattle.text.proofs.Putting.{hex-none, hex-some}
+use Rattle.text.proofs.Parts.{hex-none, hex-some}
 use Rattle.text.proofs.put_hex_or_dash.Statement.{statement}
 use Rattle.text.proofs.put_hex_or_dash.Tie as tie
 

@@ -1,6 +1,6 @@
 -- `text::put_number` meets its contract.
 use borrow.Author.Needs.{needs}
-use Rattle.text.proofs.Putting.{wrote-then}
+use Rattle.lent.proofs.Writing.{wrote-then}
 use Rattle.text.proofs.put_number.Statement.{statement}
 use Rattle.text.proofs.put_number.Tie as tie
 

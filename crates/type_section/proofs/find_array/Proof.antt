@@ -1,4 +1,4 @@
--- `type_section::find_array` meets its contract: the entry of an index stands at the index times the width.
+-- `type_section::find_array` meets its contract: the entry at an index stands at the index times the width.
 use mathlib.Core.Path.{ap}
 use Prim.Native.Nat.{_+_, _*_, _≤_}
 use native.Mathlib.Omega.{arith}
@@ -10,7 +10,7 @@ use Rattle.reading.proofs.Left.{stays-local}
 use Rattle.format.specs.Types.{typeTables}
 use Rattle.format.specs.Lookups.{arrayOf}
 use Rattle.base.specs.Error.{faultOf}
-use Rattle.type_entries.specs.Starts.{typeStartsOf}
+use Rattle.type_entries.specs.Starts.{arrayDescriptorSize, typeStartsOf}
 use Rattle.type_entries.specs.Answers.{arrayStep}
 use Rattle.format.proofs.Answers.{refused-then}
 use Rattle.type_section.proofs.Finding.{array-fits, array-out, array-found}
@@ -26,7 +26,7 @@ returns c =
     array-out (now (a .s)) (v .0 .0) (rw (v .1) at (c .before .before .before .before .tables-of .ensures)) (a .index) (c .if1 .taken)
 
 -- the entry lies in the section
-fits : (c : tie.Else1) → let t = c .before .before .t .given .0 .0 .arrays in t .at + 12 * c .before .before .before .before .before .before .args .index + 12 ≤ length (now (c .before .before .before .before .before .before .args .s))
+fits : (c : tie.Else1) → let t = c .before .before .t .given .0 .0 .arrays in t .at + arrayDescriptorSize * c .before .before .before .before .before .before .args .index + arrayDescriptorSize ≤ length (now (c .before .before .before .before .before .before .args .s))
 fits c =
     let a = c .before .before .before .before .before .before .args in
     let v = c .before .before .t .given in

@@ -1,4 +1,4 @@
--- `type_section::find_fb_type` meets its contract: the FB type of an index stands where the walk over those before it ends.
+-- `type_section::find_fb_type` meets its contract: the FB type at an index stands where the walk over those before it ends.
 use mathlib.Core.Path.{ap}
 use native.Mathlib.Omega.{arith}
 use denote.Ref.{now}

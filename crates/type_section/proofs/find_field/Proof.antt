@@ -1,4 +1,4 @@
--- `type_section::find_field` meets its contract: a field stands at its index times four behind the FB type's head.
+-- `type_section::find_field` meets its contract: a field stands behind the FB type's head, at its index times the width.
 use mathlib.Core.Path.{sym, ap, _∙_}
 use Prim.Native.Nat.{_+_, _*_, _≤_}
 use native.Mathlib.Omega.{arith}
@@ -9,6 +9,7 @@ use Rattle.reading.proofs.Given.{reads-at}
 use Rattle.reading.proofs.Left.{stays-local}
 use Rattle.format.specs.Faults.{noEntry}
 use Rattle.format.specs.Types.{field}
+use Rattle.type_entries.specs.Starts.{fieldEntrySize}
 use Rattle.type_entries.specs.Answers.{fieldStep}
 use Rattle.type_entries.proofs.Entries.{field-width, local-field}
 use Rattle.type_section.specs.Answers.{fbTypePlacedFrom}
@@ -24,7 +25,7 @@ returns c =
     sym (holds-out field (now (a .s)) _ (q .fields) (q .holds) (a .field) noEntry (c .if1 .taken)) ∙ q .is (a .field)
 
 -- the field lies in the section
-fits : (c : tie.Else1) → c .before .before .before .d .given .0 .1 .0 + 4 * c .before .before .before .before .before .before .before .args .field + 4 ≤ length (now (c .before .before .before .before .before .before .before .args .s))
+fits : (c : tie.Else1) → c .before .before .before .d .given .0 .1 .0 + fieldEntrySize * c .before .before .before .before .before .before .before .args .field + fieldEntrySize ≤ length (now (c .before .before .before .before .before .before .before .args .s))
 fits c =
     let a = c .before .before .before .before .before .before .before .args in
     let q = fields-of (now (a .s)) (a .index) _ (ap fbTypePlacedFrom (c .before .before .before .d .given .1)) (c .before .before .before .before .before .find-fb-type .ensures) in

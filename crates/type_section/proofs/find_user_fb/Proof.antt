@@ -1,4 +1,4 @@
--- `type_section::find_user_fb` meets its contract: the entry of an index stands at the index times the width.
+-- `type_section::find_user_fb` meets its contract: the entry at an index stands at the index times the width.
 use mathlib.Core.Path.{ap}
 use Prim.Native.Nat.{_+_, _*_, _≤_}
 use native.Mathlib.Omega.{arith}
@@ -10,7 +10,7 @@ use Rattle.reading.proofs.Left.{stays-local}
 use Rattle.format.specs.Types.{typeTables}
 use Rattle.format.specs.Lookups.{userFbOf}
 use Rattle.base.specs.Error.{faultOf}
-use Rattle.type_entries.specs.Starts.{typeStartsOf}
+use Rattle.type_entries.specs.Starts.{userFbDescriptorSize, typeStartsOf}
 use Rattle.type_entries.specs.Answers.{userFbStep}
 use Rattle.format.proofs.Answers.{refused-then}
 use Rattle.type_section.proofs.Finding.{user-fb-fits, user-fb-out, user-fb-found}
@@ -26,7 +26,7 @@ returns c =
     user-fb-out (now (a .s)) (v .0 .0) (rw (v .1) at (c .before .before .before .before .tables-of .ensures)) (a .index) (c .if1 .taken)
 
 -- the entry lies in the section
-fits : (c : tie.Else1) → let t = c .before .before .t .given .0 .0 .«user_fbs» in t .at + 8 * c .before .before .before .before .before .before .args .index + 8 ≤ length (now (c .before .before .before .before .before .before .args .s))
+fits : (c : tie.Else1) → let t = c .before .before .t .given .0 .0 .«user_fbs» in t .at + userFbDescriptorSize * c .before .before .before .before .before .before .args .index + userFbDescriptorSize ≤ length (now (c .before .before .before .before .before .before .args .s))
 fits c =
     let a = c .before .before .before .before .before .before .args in
     let v = c .before .before .t .given in

@@ -1,4 +1,4 @@
--- `type_section::read_from` meets its contract: the counts of the tables, which have two bytes each.
+-- `type_section::read_from` meets its contract: the counts of the tables, which fit two bytes each.
 use Prim.Native.Nat.{_<_}
 use native.Mathlib.Omega.{arith}
 use denote.Ref.{now}
@@ -13,7 +13,7 @@ use borrow.Author.Needs.{needs}
 use Rattle.type_section.proofs.read_from.Statement.{statement}
 use Rattle.type_section.proofs.read_from.Tie as tie
 
--- the counts have two bytes
+-- the counts fit two bytes
 told : (c : tie.After-struct-known) → let u = c .before .before .t .given .0 .0 in (u .«fb_types» .count < 65536) × (u .arrays .count < 65536) × (u .«user_fbs» .count < 65536)
 told c =
     counts-few (now (c .before .before .before .before .before .before .args .s)) (c .before .before .t .given .0 .0) (λ i. omega (arith, c .before .before .before .before .before .shared-slice-known .given i))

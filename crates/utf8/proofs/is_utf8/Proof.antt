@@ -6,7 +6,7 @@ use Rattle.utf8.proofs.is_utf8.Tie as tie
 
 returns : tie.Need-returns
 unfolding utf8
-returns c = rw (c .good-length .ensures)
+returns c = rw (c .valid-up-to .ensures)
 
 pub is-utf8-spec : {M : Type 1} → statement M
 is-utf8-spec = tie.close (tie.spec (λ c κs. search needs) returns)

@@ -1,4 +1,4 @@
--- `vectors::decimal` is safe and ends: a number that is larger than any input's length is not taken further, and the measure is what is left of the line.
+-- `vectors::decimal` is safe and ends: no digit is added to a number larger than any input's length, and the measure is what is left of the line.
 use Prim.Native.Nat.{_-_}
 use lib.ListN.{length}
 use borrow.Author.Needs.{needs}

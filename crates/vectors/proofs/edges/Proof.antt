@@ -1,4 +1,4 @@
--- `vectors::edges` is safe: the input has all the bytes that are asked for.
+-- `vectors::edges` is safe: the input is long enough for each part.
 use native.Mathlib.Omega.{arith}
 use lib.ListN.{length-take}
 use borrow.Author.Needs.{needs}

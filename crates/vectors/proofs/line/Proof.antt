@@ -1,4 +1,4 @@
--- `vectors::line` is safe: the input's length and the digest's place lie within, as was tested.
+-- `vectors::line` is safe: the tests before show that the input's length and the digest's place lie within.
 use native.Mathlib.Omega.{arith}
 use lib.ListN.{length-take}
 use borrow.Author.Needs.{needs}

@@ -1,4 +1,4 @@
--- `vectors::lines` is safe and ends: each line ends behind its start, and the measure is what is left of the file.
+-- `vectors::lines` is safe and ends: no line ends before its start, and the measure is what is left of the file.
 use Prim.Native.Nat.{_-_, _≤_}
 use lib.ListN.{length}
 use borrow.Author.Needs.{needs}

@@ -1,9 +1,10 @@
--- `wide::chunks4` meets its contract. The loop's invariant: in each lane the blocks that are left give what all give.
+-- `wide::chunks4` meets its contract. The loop's invariant: in each lane the blocks that are left give what all blocks give.
 use mathlib.Core.Path.{_≡_, refl, _∙_}
 use mathlib.Core.List.{List, [], _∷_}
 use Prim.Native.Nat.{ℕ, zero, suc, _-_, _≤_, _<_}
 use native.Mathlib.Omega.{arith}
 use borrow.Author.Needs.{needs}
+use Rattle.compression.specs.Sizes.{lastBlock}
 use Rattle.compression.specs.Compression.{iv}
 use Rattle.wide.specs.Lanes.{lane, from}
 use Rattle.wide.proofs.Lanes.{left, all, left-all, left-less, last}
@@ -11,10 +12,10 @@ use Rattle.wide.proofs.chunks4.Statement.{statement}
 use Rattle.wide.proofs.chunks4.Tie as tie
 
 abbrev Inv-loop : tie.InvT-loop
-Inv-loop s at t h₀ b₀ h b = (b ≤ 15) × ((j : ℕ) → j < 4 → left s at t j b (lane h j) ≡ all s at t j (lane h₀ j))
+Inv-loop s at t h₀ b₀ h b = (b ≤ lastBlock) × ((j : ℕ) → j < 4 → left s at t j b (lane h j) ≡ all s at t j (lane h₀ j))
 
 abbrev μ-loop : tie.MeasureT-loop
-μ-loop s at t h₀ b₀ h b = 15 - b
+μ-loop s at t h₀ b₀ h b = lastBlock - b
 
 -- what the lanes go on from
 begin : (c v : List ℕ) → v ≡ iv → (j : ℕ) → j < 4 → lane (c ∷ v ∷ v ∷ v ∷ []) j ≡ from c j

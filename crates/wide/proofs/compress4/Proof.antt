@@ -38,7 +38,7 @@ loop-again c =
       omega arith,
       simp length-set (l .inv .1),
       filled (one (a .t1) (a .s .now) (a .at) (a .t) (a .flags)) (l .out) (l .i) _ (search needs)
-          (made (a .t1) (a .s .now) (a .at) (a .t) (a .flags) (l .i) refl (c .before .before .words-at .ensures) (c .before .wrapping-add-u64 .ensures) (c .compress .ensures)) (l .inv .2),
+          (made (a .t1) (a .s .now) (a .at) (a .t) (a .flags) (l .i) refl (c .before .before .words-at .ensures) (c .before .counter-after .ensures) (c .compress .ensures)) (l .inv .2),
     )
 
 returns : tie.Need-returns Inv-loop μ-loop

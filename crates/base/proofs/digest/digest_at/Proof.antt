@@ -1,4 +1,4 @@
--- `base::digest::digest_at` meets its contract: the words that stand one behind the other have the bytes that stand there.
+-- `base::digest::digest_at` meets its contract: words one after the other have the bytes at that place.
 use borrow.Author.Needs.{needs}
 use denote.Ref.{now}
 use native.Mathlib.Omega.{arith}

@@ -1,4 +1,4 @@
--- `base::string_layout::string_region_size` meets its contract: a width is at most 2, so that nothing wraps.
+-- `base::string_layout::string_region_size` meets its contract: a width is at most 2, so nothing wraps.
 use borrow.Author.Needs.{needs}
 use native.Mathlib.Omega.{arith}
 use Prim.Native.Nat.{ℕ, _*_, _≤_}

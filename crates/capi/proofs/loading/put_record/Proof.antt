@@ -1,14 +1,13 @@
 -- `capi::loading::put_record` meets its contract.
-use Rattle.text.proofs.Putting.{wrote-then}
-use Rattle.capi.proofs.Saying.{wrote-as}
+use Rattle.lent.proofs.Writing.{wrote-as, wrote-then}
 use borrow.Author.Needs.{needs}
 use Rattle.capi.proofs.loading.put_record.Statement.{statement}
 use Rattle.capi.proofs.loading.put_record.Tie as tie
 
 returns : tie.Need-returns
 returns c =
-    wrote-as (wrote-then (wrote-then (wrote-then (wrote-then (c .before .before .before .before .before .before .before .before .before .before .before .before .before .before .before .before .before .before .before .before .before .before .put-header .ensures) (c .before .before .before .before .before .before .before .before .before .before .before .before .before .before .before .before .before .put .ensures)) (c .before .before .before .before .before .before .before .before .before .before .before .before .put2 .ensures)) (c .before .before .before .before .before .before .before .put3 .ensures)) (c .before .before .put4 .ensures))
-    (rw (c .before .before .before .before .before .before .before .before .before .before .before .before .before .before .before .before .before .before .before .before .before .before .before .before .before .before .before .task-counts .ensures, c .before .before .before .before .before .before .before .before .before .before .before .before .before .before .before .before .before .before .before .before .before .before .before .before .before .before .type-counts .ensures, c .before .before .before .before .before .before .before .before .before .before .before .before .before .before .before .before .before .before .before .before .before .before .before .before .debug-counts .ensures))
+    wrote-as (rw (c .before .before .before .before .before .before .before .before .before .before .before .before .before .before .before .before .before .before .before .before .before .before .before .before .before .before .before .task-counts .ensures, c .before .before .before .before .before .before .before .before .before .before .before .before .before .before .before .before .before .before .before .before .before .before .before .before .before .before .type-counts .ensures, c .before .before .before .before .before .before .before .before .before .before .before .before .before .before .before .before .before .before .before .before .before .before .before .before .debug-counts .ensures))
+    (wrote-then (wrote-then (wrote-then (wrote-then (c .before .before .before .before .before .before .before .before .before .before .before .before .before .before .before .before .before .before .before .before .before .before .put-header .ensures) (c .before .before .before .before .before .before .before .before .before .before .before .before .before .before .before .before .before .put-u64s .ensures)) (c .before .before .before .before .before .before .before .before .before .before .before .before .put-u64s2 .ensures)) (c .before .before .before .before .before .before .before .put-u64s3 .ensures)) (c .before .before .put-u64s4 .ensures))
 
 pub put-record-spec : {M : Type 1} → statement M
 put-record-spec =

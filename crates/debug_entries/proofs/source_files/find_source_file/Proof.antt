@@ -1,4 +1,4 @@
--- `debug_entries::source_files::find_source_file` meets its contract: behind the entries before it stands the entry.
+-- `debug_entries::source_files::find_source_file` meets its contract: the entries before it are skipped, then the entry is read.
 use mathlib.Core.Path.{ap}
 use native.Mathlib.Omega.{arith}
 use Rattle.reading.proofs.Passing.{goes-told}

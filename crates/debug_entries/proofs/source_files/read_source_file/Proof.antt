@@ -1,4 +1,4 @@
--- `debug_entries::source_files::read_source_file` meets its contract: the path, and the hash behind it.
+-- `debug_entries::source_files::read_source_file` meets its contract: the path, then the hash.
 use mathlib.Core.Path.{ap}
 use native.Mathlib.Omega.{arith}
 use Rattle.reading.proofs.Passing.{reads-told}

@@ -7,6 +7,7 @@ use native.Mathlib.Nat.{le-of-lt}
 use native.Mathlib.Omega.{arith}
 use lib.ListN.{length, take, drop}
 use borrow.Author.Tests.{eqb-true, ltb-true}
+use Rattle.compression.specs.Sizes.{blockLen, chunkLen, lastBlock}
 use Rattle.hasher.specs.State.{fedFreely}
 use Rattle.hasher.specs.Whole.{chunksDone, atOnce}
 use Rattle.hasher.specs.declared.Hasher.{Hasher}
@@ -18,15 +19,15 @@ use Rattle.hasher.proofs.Hasher.feed.Statement.{statement}
 use Rattle.hasher.proofs.Hasher.feed.Tie as tie
 
 abbrev Inv-loop : tie.InvT-loop
-Inv-loop s h₀ at₀ h at = (at ≤ length s) × (length (h .block) ≡ 64) × (fedFreely h (drop at s) ≡ fedFreely h₀ s)
+Inv-loop s h₀ at₀ h at = (at ≤ length s) × (length (h .block) ≡ blockLen) × (fedFreely h (drop at s) ≡ fedFreely h₀ s)
 
 abbrev μ-loop : tie.MeasureT-loop
-μ-loop s h₀ at₀ h at = 2 * (length s - at) + h .len
+μ-loop s h₀ at₀ h at = 2 * (length s - at) + h .«block_len»
 
 loop-holds : tie.Need-loop-holds Inv-loop μ-loop
 loop-holds c = (search needs, search needs, refl)
 
--- a state that is what another one becomes
+-- a state that equals an empty one is empty
 empty-as : {r u : Hasher} → r ≡ u → Empty u → Empty r
 empty-as e z = rw e z
 
@@ -46,11 +47,11 @@ loop-again c =
 take-whole-requires : tie.Need-take-whole-requires Inv-loop μ-loop
 take-whole-requires c κs = omega (arith, ltb-true)
 
--- as many whole chunks as are taken at once: more is left behind them
-chunks-fit : (s : List ℕ) (at : ℕ) {n : ℕ} → 1024 < length s - at → n ≡ atOnce (length s - at) → (at + 1024 * n < length s) × (0 < n)
+-- as many whole chunks as are taken in at once: more input follows them
+chunks-fit : (s : List ℕ) (at : ℕ) {n : ℕ} → chunkLen < length s - at → n ≡ atOnce (length s - at) → (at + chunkLen * n < length s) × (0 < n)
 chunks-fit s at p e = let f = at-once-fits (length s - at) p in rw e (omega (arith, f .0), f .1)
 
-whole-empty : (s : List ℕ) (h r : Hasher) (at : ℕ) → h .len ≡ 0 → length (h .block) ≡ 64 → r ≡ chunksDone (atOnce (length s - at)) h (drop at s) → Empty r
+whole-empty : (s : List ℕ) (h r : Hasher) (at : ℕ) → h .«block_len» ≡ 0 → length (h .block) ≡ blockLen → r ≡ chunksDone (atOnce (length s - at)) h (drop at s) → Empty r
 whole-empty s h r at z l e = empty-as e (chunks-empty (atOnce (length s - at)) h (drop at s) (z, l))
 
 mul-at : tie.Need-mul-at Inv-loop μ-loop
@@ -82,20 +83,20 @@ loop-again-2 c =
     let n = c .at-once .result in
     let f = chunks-fit s (l .at) (search needs) (c .at-once .ensures) in
     let z = whole-empty s (l .h) (c .before .take-whole .result) (l .at) (search needs) (l .inv .1) (c .before .take-whole .ensures) in
-    (omega (arith, f), z .1, whole-turn (l .h) s (l .at) n (search needs) (l .inv .1) (eqb-true (l .h .blocks) 0 (c .before .before .before .if3 .taken)) (f .0) (rw (c .at-once .ensures) (c .before .take-whole .ensures)) ∙ l .inv .2)
+    (omega (arith, f), z .1, whole-turn (l .h) s (l .at) n (search needs) (l .inv .1) (eqb-true (l .h .«blocks_compressed») 0 (c .before .before .before .if3 .taken)) (f .0) (rw (c .at-once .ensures) (c .before .take-whole .ensures)) ∙ l .inv .2)
 
--- as many whole blocks as the chunk has room for before its last, and as more is left behind
-blocks-fit : (s : List ℕ) (at b n : ℕ) → b < 15 → 64 < length s - at → n ≡ min (15 - b) ((length s - at - 1) / 64) → (at + 64 * n < length s) × (n + b ≤ 15) × (0 < n)
+-- as many whole blocks as the chunk has room for before its last, and as more input follows
+blocks-fit : (s : List ℕ) (at b n : ℕ) → b < lastBlock → blockLen < length s - at → n ≡ min (lastBlock - b) ((length s - at - 1) / blockLen) → (at + blockLen * n < length s) × (n + b ≤ lastBlock) × (0 < n)
 blocks-fit s at b n p q e = (omega arith, omega arith, omega arith)
 
 sub-least : tie.Need-sub-least Inv-loop μ-loop
-sub-least c = let l = c .before .before .before .before .before .before .before .before .loop in le-of-lt (ltb-true (l .h .blocks) 15 (c .before .if6 .taken))
+sub-least c = let l = c .before .before .before .before .before .before .before .before .loop in le-of-lt (ltb-true (l .h .«blocks_compressed») lastBlock (c .before .if6 .taken))
 
 chain-requires : tie.Need-chain-requires Inv-loop μ-loop
 chain-requires c κs =
     let s = c .before .before .before .before .before .before .before .before .before .before .before .before .before .args .s .now in
     let l = c .before .before .before .before .before .before .before .before .before .before .before .loop in
-    let f = blocks-fit s (l .at) (l .h .blocks) (c .before .before .least .result) (ltb-true (l .h .blocks) 15 (c .before .before .before .before .if6 .taken)) (search needs) (c .before .before .least .ensures) in
+    let f = blocks-fit s (l .at) (l .h .«blocks_compressed») (c .before .before .least .result) (ltb-true (l .h .«blocks_compressed») lastBlock (c .before .before .before .before .if6 .taken)) (search needs) (c .before .before .least .ensures) in
     (omega (arith, f .0), f .1)
 
 loop-less-3 : tie.Need-loop-less-3 Inv-loop μ-loop
@@ -103,7 +104,7 @@ loop-less-3 c =
     let s = c .before .before .before .before .before .before .before .before .before .before .before .before .before .before .before .args .s .now in
     let l = c .before .before .before .before .before .before .before .before .before .before .before .before .before .loop in
     let n = c .before .before .before .before .least .result in
-    let f = blocks-fit s (l .at) (l .h .blocks) n (ltb-true (l .h .blocks) 15 (c .before .before .before .before .before .before .if6 .taken)) (search needs) (c .before .before .before .before .least .ensures) in
+    let f = blocks-fit s (l .at) (l .h .«blocks_compressed») n (ltb-true (l .h .«blocks_compressed») lastBlock (c .before .before .before .before .before .before .if6 .taken)) (search needs) (c .before .before .before .before .least .ensures) in
     omega (arith, f)
 
 loop-again-3 : tie.Need-loop-again-3 Inv-loop μ-loop
@@ -111,7 +112,7 @@ loop-again-3 c =
     let s = c .before .before .before .before .before .before .before .before .before .before .before .before .before .before .before .args .s .now in
     let l = c .before .before .before .before .before .before .before .before .before .before .before .before .before .loop in
     let n = c .before .before .before .before .least .result in
-    let f = blocks-fit s (l .at) (l .h .blocks) n (ltb-true (l .h .blocks) 15 (c .before .before .before .before .before .before .if6 .taken)) (search needs) (c .before .before .before .before .least .ensures) in
+    let f = blocks-fit s (l .at) (l .h .«blocks_compressed») n (ltb-true (l .h .«blocks_compressed») lastBlock (c .before .before .before .before .before .before .if6 .taken)) (search needs) (c .before .before .before .before .least .ensures) in
     (omega (arith, f .0), refl, blocks-turn (l .h) s (l .at) n (search needs) (l .inv .1) (f .2) (f .1) (f .0) (c .before .before .counter .ensures) (c .before .chain .ensures) ∙ l .inv .2)
 
 loop-again-4 : tie.Need-loop-again-4 Inv-loop μ-loop
@@ -144,6 +145,7 @@ feed-spec =
     add-at
     loop-less-2
     loop-again-2
+    (λ c. search needs)
     (λ c. search needs)
     sub-least
     (λ c. search needs)

@@ -1,11 +1,11 @@
--- `hasher::Hasher::take_chunks` meets its contract. The loop's invariant: what the state has made of the chunks passed.
-use mathlib.Core.Path.{_≡_, sym, ap, ap₂, _∙_}
-use mathlib.Core.List.{List}
-use Prim.Native.Nat.{ℕ, _+_, _*_, _-_}
+-- `hasher::Hasher::take_chunks` meets its contract. The loop's invariant: what the chunks passed have made of the state.
+use mathlib.Core.Path.{_≡_, sym, ap, _∙_}
+use Prim.Native.Nat.{_+_, _*_, _-_}
 use native.Mathlib.Omega.{arith}
 use lib.ListN.{drop}
 use lib.Seq.{drop-drop}
-use Rattle.wide.specs.Lanes.{counter, chunkValue, from}
+use Rattle.compression.specs.Sizes.{chunkLen}
+use Rattle.wide.specs.Lanes.{counterAfter, chunkValue, from}
 use Rattle.hasher.specs.Whole.{chunksDone}
 use Rattle.hasher.proofs.Four.{Passed, passed-none, passed-more}
 use borrow.Author.Needs.{needs}
@@ -19,16 +19,16 @@ abbrev μ-loop : tie.MeasureT-loop
 μ-loop s at values h₀ i₀ h i = 4 - i
 
 loop-holds : tie.Need-loop-holds Inv-loop μ-loop
-loop-holds c = let a = c .before .before .before .before .args in passed-none (a .self) (drop (a .at) (a .s .now)) (search needs)
+loop-holds c = let a = c .before .before .before .args in passed-none (a .self) (drop (a .at) (a .s .now)) (search needs)
 
 loop-again : tie.Need-loop-again Inv-loop μ-loop
 loop-again c =
-    let a = c .before .before .before .before .before .before .before .before .args in
+    let a = c .before .before .before .before .before .before .before .args in
     let l = c .before .before .before .loop in
     let made = c .before .before .before .before .chunks4 .ensures in
     passed-more (a .self) (l .h) (drop (a .at) (a .s .now)) (l .i) (l .inv) (search needs)
     (made (l .i) (search needs)
-    ∙ ap₂ (λ (t : ℕ) (x : List ℕ). chunkValue (from (a .self .cv) (l .i)) (counter t (l .i)) x) (c .before .before .before .before .before .counter .ensures) (sym (drop-drop (1024 * l .i) (a .at) (a .s .now))))
+    ∙ ap (chunkValue (from (a .self .«chaining_value») (l .i)) (counterAfter (a .self .«chunk_counter») (l .i))) (sym (drop-drop (chunkLen * l .i) (a .at) (a .s .now))))
     (c .chunk-done .ensures)
 
 returns : tie.Need-returns Inv-loop μ-loop
@@ -44,7 +44,6 @@ take-chunks-spec =
     (tie.spec
     Inv-loop
     μ-loop
-    (λ c κs. search needs)
     (λ c κs. search needs)
     loop-holds
     (λ c. search needs)

@@ -1,4 +1,4 @@
--- `base::section::Part::of` meets its contract: it tells by two tests that cannot wrap whether the part lies in the file.
+-- `base::section::Part::of` meets its contract: two tests that cannot wrap decide whether the part lies in the file.
 use borrow.Author.Needs.{needs}
 use borrow.Author.Tests.{le-leb, lt-leb}
 use native.Mathlib.Omega.{arith}

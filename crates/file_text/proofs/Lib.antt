@@ -1,2 +1,0 @@
-pub mod Listed
-pub mod Joining

@@ -1,0 +1,4 @@
+pub mod Writing
+pub mod Fitting
+pub mod Copying
+pub mod Laws

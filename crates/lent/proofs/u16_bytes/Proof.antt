@@ -1,0 +1,18 @@
+-- `lent::u16_bytes` meets its contract: the definition, written out.
+use mathlib.Core.Path.{refl}
+use Rattle.reading.specs.Numbers.{bytesLe}
+use borrow.Author.Needs.{needs}
+use Rattle.lent.proofs.u16_bytes.Statement.{statement}
+use Rattle.lent.proofs.u16_bytes.Tie as tie
+
+returns : tie.Need-returns
+unfolding bytesLe
+returns c = refl
+
+pub u16-bytes-spec : {M : Type 1} → statement M
+u16-bytes-spec =
+    tie.close
+    (tie.spec
+    (λ c. search needs)
+    (λ c. search needs)
+    returns)

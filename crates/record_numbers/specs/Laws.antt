@@ -1,0 +1,41 @@
+-- The laws of numbers and records: the numbers of a record give it back, and which numbers give none.
+use Prim.Native.Nat.{ℕ, _<_, _≤_}
+use mathlib.Core.List.{List, _∷_, _++_}
+use mathlib.Core.Option.{none, some}
+use mathlib.Core.Path.{_≡_}
+use mathlib.Core.Bool.{true}
+use lib.ListN.{length, getD, take}
+use Rattle.format.specs.Header.{Header}
+use Rattle.format.specs.Record.{Container}
+use Rattle.record_numbers.specs.ToNumbers.{recordNumbers}
+use Rattle.record_numbers.specs.FromNumbers.{numberCount, mostOfFields, fits, headerWithout, typesFlagAt, constantsPlace, debugFlagAt, numberAt, recordOfNumbers}
+
+-- a record whose hashes and reserved bytes are zero, with the magic of every file that loads
+abbrev pub withoutHashes : Container → Container
+withoutHashes c =
+    let h = c .header in
+    record {
+      header = headerWithout (h .version) (h .profile) (h .flags) (h .directory) (h .runtime);
+      tasks = c .tasks;
+      types = c .types;
+      constants = c .constants;
+      debug = c .debug;
+    }
+
+-- each number of a record fits its field, as those of every record of the code do
+pub record Fits (c : Container) : Type 0 where
+  pub all : fits mostOfFields (0 ∷ recordNumbers c) ≡ true
+
+pub record Laws : Type 0 where
+  -- the numbers of a record, with any numbers behind them, give the record back
+  pub comes-back : (c : Container) (more : List ℕ) → Fits c → recordOfNumbers ((0 ∷ recordNumbers c) ++ more) ≡ some (withoutHashes c)
+  -- numbers behind the first 44 are not looked at
+  pub first-count : (ns more : List ℕ) → numberCount ≤ length ns → recordOfNumbers (ns ++ more) ≡ recordOfNumbers ns
+  -- no record: too few numbers; a first number other than 0; a flag other than 0 or 1; a number that its field cannot hold; a count other than 0 beside a flag 0
+  pub too-few : (ns : List ℕ) → length ns < numberCount → recordOfNumbers ns ≡ none
+  pub first-zero : (ns : List ℕ) → 0 < numberAt ns 0 → recordOfNumbers ns ≡ none
+  pub types-flag : (ns : List ℕ) → 1 < numberAt ns typesFlagAt → recordOfNumbers ns ≡ none
+  pub debug-flag : (ns : List ℕ) → 1 < numberAt ns debugFlagAt → recordOfNumbers ns ≡ none
+  pub too-large : (ns : List ℕ) (k : ℕ) → k < numberCount → getD mostOfFields k 0 < numberAt ns k → recordOfNumbers ns ≡ none
+  pub no-types : (ns : List ℕ) (k : ℕ) → typesFlagAt < k → k < constantsPlace → numberAt ns typesFlagAt ≡ 0 → 0 < numberAt ns k → recordOfNumbers ns ≡ none
+  pub no-debug : (ns : List ℕ) (k : ℕ) → debugFlagAt < k → k < numberCount → numberAt ns debugFlagAt ≡ 0 → 0 < numberAt ns k → recordOfNumbers ns ≡ none

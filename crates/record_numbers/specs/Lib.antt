@@ -1,0 +1,4 @@
+pub mod ToNumbers
+pub mod FromNumbers
+pub mod Answers
+pub mod Laws

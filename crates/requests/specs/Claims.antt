@@ -1,0 +1,9 @@
+-- All that is claimed of document 02's slips, in their order, for any hash. Each slip has a module of its own with its definitions, named in
+-- `Lib`, and a field here with what is claimed of them. What a slip changes of document 01 is changed in `format`.
+use Prim.Native.Nat.{ℕ}
+use mathlib.Core.List.{List}
+
+pub record Claims (hash : List ℕ → List ℕ) : Type 0 where
+
+abbrev pub AllClaims : Type 0
+AllClaims = (hash : List ℕ → List ℕ) → Claims hash
