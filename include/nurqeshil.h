@@ -3,19 +3,19 @@
  *     rt staticlib capi           builds target/staticlib/libcapi.a
  *     cc -I include main.c target/staticlib/libcapi.a
  *
- * The library keeps nothing between calls. No function has a precondition on the bytes: any file is answered, by what was asked for
- * or by a refusal. Pointers must not be null, even where a length or room is 0. A lent buffer (`out`, `digest`) must not overlap
- * anything that is read, nor another lent buffer.
+ * The library keeps nothing between calls. No function has a precondition on the bytes: every file gets an answer or a refusal.
+ * Pointers must not be null, even where a length or room is 0. A lent buffer (`out`, `digest`) must not overlap anything that is
+ * read, nor another lent buffer.
  *
- * A file of more than 65,536 bytes is refused with CONTAINER_TOO_LONG; room for one byte more is enough to see that.
+ * A file of more than 65,536 bytes is refused with CONTAINER_TOO_LONG; a buffer of 65,537 bytes is enough to detect one.
  *
  * What a call costs. container_load, container_ask, container_line, container_content_hash and container_list read the whole file at
- * every call, and hash it if it carries a content hash or a debug hash. container_lookup reads only the section that it looks in: load a file once, and look up
- * over the numbers of its record.
+ * every call, and hash it if it carries a content hash or a debug hash. container_lookup reads only the section that it looks in: load
+ * a file once, and look up over the numbers of its record.
  *
- * Answers in numbers. `out` then starts with 0 and the answer's numbers, or with a refusal's number and its values, and the function
- * returns their count; the numbers behind them are left as they were. `room` counts numbers; if it is below CONTAINER_ROOM, nothing
- * is written and 0 is returned.
+ * Answers in numbers. A function that answers in numbers writes them at the start of `out`: 0 and the answer's numbers, or a refusal's
+ * number and its values. It returns their count; the numbers behind them are left as they were. `room` counts numbers; if it is below
+ * CONTAINER_ROOM, nothing is written and 0 is returned.
  */
 #ifndef NURQESHIL_H
 #define NURQESHIL_H
@@ -31,7 +31,7 @@ extern "C" {
 #define CONTAINER_LOADED 44  /* numbers of a file that loads; later versions may write more behind them */
 #define CONTAINER_DIGEST 32  /* bytes of a hash */
 
-/* The refusals, with the values behind their numbers. README.md says what to do about each. */
+/* The refusals, with the values behind their numbers. README.md says what each means. */
 enum container_refusal {
     CONTAINER_SHORT_INPUT = 1,
     CONTAINER_INVALID_MAGIC = 2,
@@ -53,15 +53,21 @@ enum container_refusal {
     CONTAINER_NO_ENTRY = 29
 };
 
-/* Loads a file. Behind the 0: version, profile, flags; offset and size of signature, debug signature, types, tasks, constants,
- * code, debug; stack depth, call depth, variables, data region bytes, temporary buffers, their bytes, functions, FB types,
- * input, output and memory image bytes; tasks, programs, shared globals size; 1 if there are types, FB types, arrays, user FBs;
- * constants; 1 if there is debug, lines, variables, functions, strings, files, enumerations. The counts of absent types or debug
- * are 0. These CONTAINER_LOADED numbers, the 0 included, stand for the file's record in container_lookup. */
+/* Loads a file. After the 0 come, with their places in `out`:
+ *   1 to 3    version, profile, flags
+ *   4 to 17   offset and size of signature, debug signature, types, tasks, constants, code, debug
+ *   18 to 28  maximum stack depth, maximum call depth, variables, data region bytes, temporary buffers, bytes of the largest of them,
+ *             functions, FB types, input, output and memory image bytes
+ *   29 to 31  count of tasks, count of programs, shared globals size
+ *   32        1 if there are types, else 0;  33 to 35  counts of FB types, arrays, user FBs, 0 without types
+ *   36        count of constants
+ *   37        1 if there is debug, else 0;  38 to 43  counts of lines, variables, functions, strings, files, enumerations, 0 without
+ *             debug
+ * These CONTAINER_LOADED numbers, the 0 included, stand for the file's record in container_lookup. */
 size_t container_load(const uint8_t *file, size_t length, uint64_t *out, size_t room);
 
-/* The kinds of lookup, with the answer's numbers. Each takes `index`; those with a pair in brackets also take `second`.
- * A part is two numbers: its place in the file and its length. Bytes that are one number are in it low byte first. */
+/* The kinds of lookup, with the answer's numbers. Each takes `index`; those with a pair in parentheses also take `second`.
+ * A part is two numbers: its place in the file and its length. Where bytes are given as one number, the first is the lowest. */
 enum container_kind {
     CONTAINER_TASK = 0,               /* id, priority, type, flags, interval, single variable, watchdog, input and output image
                                          offset, the 4 reserved bytes as one number */
@@ -94,12 +100,12 @@ enum container_kind {
 };
 
 /* Looks up over a file and the record of a file: `record` is what container_load wrote, its first 0 included, and `numbers` is its
- * length; `out` must not be the same buffer. Only the first CONTAINER_LOADED numbers count. The record is not trusted: it may be made up, or that of another file. The
- * lookup reads its section again, in `file`, at the record's place, size and function count, and answers over the record of the file
- * itself what container_ask answers. Hashes are not checked again.
+ * length; `out` must not be the same buffer. Only the first CONTAINER_LOADED numbers count. The record is not trusted: it may be made
+ * up, or be that of another file. The lookup reads its section again, in `file`, at the record's place, size and function count. Over
+ * the record of the file itself it answers what container_ask answers. Hashes are not checked again.
  *
- * The numbers stand for no record if there are fewer than CONTAINER_LOADED, the first is not 0, a number is more than its field of
- * the header or count of 16 bits can hold, a flag (types, debug) is neither 0 nor 1, or a count beside a flag 0 is not 0. Then, and
+ * The numbers stand for no record if there are fewer than CONTAINER_LOADED, the first is not 0, a number does not fit its
+ * header field or a 16-bit count, a flag (types, debug) is neither 0 nor 1, or a count beside a flag 0 is not 0. Then, and
  * for an unknown kind, nothing is written and 0 is returned.
  *
  * Kind, index and second have 16 bits: the C compiler cuts a larger number to its low 16 bits, usually without a warning, and another
@@ -114,10 +120,11 @@ size_t container_ask(const uint8_t *file, size_t length, uint16_t kind, uint16_t
 /* The same as container_ask of CONTAINER_LINE, with a function and an offset of 16 bits. */
 size_t container_line(const uint8_t *file, size_t length, uint16_t function, uint16_t offset, uint64_t *out, size_t room);
 
-/* The content hash in the header of a file that loads. `out` then starts with 0, or with a refusal's number and its values, and the
- * function returns the count of these numbers (1, 2 or 3). With 0 the hash is in the first 32 bytes of `digest`, and the bytes behind
- * them are left as they were; with a refusal all of `digest` is. If `digest_length`, in bytes, is below CONTAINER_DIGEST or `room`
- * below CONTAINER_ROOM, nothing is written and 0 is returned. */
+/* The content hash in the header of a file that loads; 32 zeros mean that the file is not hashed and nothing was checked. `out` then
+ * starts with 0, or with a refusal's number and its values, and the function returns the count of these numbers (1, 2 or 3). With 0
+ * the hash is in the first 32 bytes of `digest`, and the bytes behind them are left as they were; after a refusal all of `digest` is
+ * as it was. If `digest_length`, in bytes, is below CONTAINER_DIGEST or `room` below CONTAINER_ROOM, nothing is written and 0 is
+ * returned. */
 size_t container_content_hash(const uint8_t *file, size_t length, uint8_t *digest, size_t digest_length, uint64_t *out, size_t room);
 
 /* BLAKE3 of any bytes, in the same way; CONTAINER_TOO_LONG if there are more than 261,376. */

@@ -27,17 +27,21 @@ pub const LOOKUPS: [Lookup; 5] = [
 
 impl Lookup {
     /// The first, the middle and the last index.
-    pub fn indexes(&self, container: &Container) -> [(&'static str, u16); 3] {
+    pub fn indexes(&self, container: &Container) -> [u16; 3] {
         let count = (self.count)(container);
-        [("first", 0), ("middle", (count / 2) as u16), ("last", (count - 1) as u16)]
+        [0, (count / 2) as u16, (count - 1) as u16]
     }
 
-    /// Whether the port answers every index as the Rust's table has it.
+    /// Whether the port answers every index as the Rust's table has it, over the file and over its record.
     pub fn agrees(&self, file: &[u8], container: &Container) -> bool {
-        let mut out: Numbers = NO_NUMBERS;
+        let (mut record, mut out): (Numbers, Numbers) = (NO_NUMBERS, NO_NUMBERS);
+        let numbers = port::load(file, &mut record);
         (0..(self.count)(container)).all(|index| {
-            let count = port::ask(file, self.kind, index as u16, self.second, &mut out);
-            out[..count] == (self.expected)(container, file, index)
+            let expected = (self.expected)(container, file, index);
+            let asked = port::ask(file, self.kind, index as u16, self.second, &mut out);
+            let same = out[..asked] == expected;
+            let looked = port::lookup(file, &record[..numbers], self.kind, index as u16, self.second, &mut out);
+            same && out[..looked] == expected
         })
     }
 }

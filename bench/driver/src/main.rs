@@ -8,9 +8,11 @@ mod files;
 mod lookups;
 mod port;
 mod timing;
-// The oracle's: the Rust's listing, and what it stands on.
+// The oracle's: the library's functions, the Rust's listing, and what it stands on.
 #[path = "../../../oracle/build/oracle/src/bytes.rs"]
 mod bytes;
+#[path = "../../../oracle/build/oracle/src/functions.rs"]
+mod functions;
 #[path = "../../../oracle/build/oracle/src/listing.rs"]
 mod listing;
 #[path = "../../../oracle/build/oracle/src/reading.rs"]
@@ -20,7 +22,7 @@ use std::hint::black_box;
 
 use files::File;
 use ironplc_container::Container;
-use lookups::LOOKUPS;
+use lookups::{Lookup, LOOKUPS};
 use port::NO_NUMBERS;
 use timing::{least, Way};
 
@@ -120,19 +122,32 @@ fn print_growth(rows: &[Row]) {
     }
 }
 
-/// The port's lookups. Each reads the file anew, so that loading alone stands beside them.
-fn print_lookups(files: &[File]) {
-    println!("\n| lookup | file | bytes | loading | first | middle | last |\n|---|---|---|---|---|---|---|");
+/// A lookup by `container_ask`, which loads the file first.
+fn asked<'a>(file: &'a [u8], lookup: &'a Lookup, index: u16) -> Way<'a> {
+    let mut out = NO_NUMBERS;
+    Way::new(move || port::ask(black_box(file), lookup.kind, index, lookup.second, &mut out))
+}
+
+/// The same lookup by `container_lookup`, over the record of the file.
+fn looked_up<'a>(file: &'a [u8], lookup: &'a Lookup, index: u16) -> Way<'a> {
+    let (mut record, mut out) = (NO_NUMBERS, NO_NUMBERS);
+    let numbers = port::load(file, &mut record);
+    Way::new(move || port::lookup(black_box(file), &record[..numbers], lookup.kind, index, lookup.second, &mut out))
+}
+
+/// The port's lookups, first of the file and then of its record, with loading alone beside them.
+fn print_lookups(hashed: &str, files: &[File]) {
     for lookup in &LOOKUPS {
         for file in files.iter().filter(|file| file.shape == lookup.shape) {
             let bytes = &file.bytes[..];
+            let indexes = lookup.indexes(&agreement::read(bytes));
             let mut ways = vec![port_load(bytes)];
-            for (_, index) in lookup.indexes(&agreement::read(bytes)) {
-                let mut out = NO_NUMBERS;
-                ways.push(Way::new(move || port::ask(black_box(bytes), lookup.kind, index, lookup.second, &mut out)));
-            }
-            let times: Vec<String> = least(ways).iter().map(|time| format!("{time:.2}")).collect();
-            println!("| {} | {} | {} | {} |", lookup.name, file.shape, bytes.len(), times.join(" | "));
+            ways.extend(indexes.map(|index| asked(bytes, lookup, index)));
+            ways.extend(indexes.map(|index| looked_up(bytes, lookup, index)));
+            let times = least(ways);
+            let ratio = times[6] / times[3];
+            let times: Vec<String> = times.iter().map(|time| format!("{time:.2}")).collect();
+            println!("| {}, {hashed}, {} | {} | {} | {ratio:.2} |", lookup.name, file.shape, bytes.len(), times.join(" | "));
         }
     }
 }
@@ -163,5 +178,8 @@ fn main() {
     rows.extend(unhashed.iter().map(list));
     print_rows(&rows);
     print_growth(&rows);
-    print_lookups(&unhashed);
+    println!("\n| lookup | bytes | load | ask: first | middle | last | over the record: first | middle | last | last: lookup / ask |");
+    println!("|---|---|---|---|---|---|---|---|---|---|");
+    print_lookups("unhashed", &unhashed);
+    print_lookups("hashed", &hashed);
 }

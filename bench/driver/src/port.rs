@@ -1,26 +1,6 @@
 //! The port: the functions of the static library.
 
-unsafe extern "C" {
-    fn container_load(file: *const u8, length: usize, out: *mut u64, room: usize) -> usize;
-    fn container_ask(file: *const u8, length: usize, kind: u16, index: u16, second: u16, out: *mut u64, room: usize) -> usize;
-    fn container_content_hash(
-        file: *const u8,
-        length: usize,
-        digest: *mut u8,
-        digest_length: usize,
-        out: *mut u64,
-        room: usize,
-    ) -> usize;
-    fn container_hash(
-        bytes: *const u8,
-        length: usize,
-        digest: *mut u8,
-        digest_length: usize,
-        out: *mut u64,
-        room: usize,
-    ) -> usize;
-    fn container_list(file: *const u8, length: usize, out: *mut u8, room: usize) -> usize;
-}
+use crate::functions::*;
 
 /// Room for the numbers of any answer.
 pub type Numbers = [u64; 64];
@@ -40,6 +20,12 @@ pub fn load(file: &[u8], out: &mut Numbers) -> usize {
 /// The same of a lookup.
 pub fn ask(file: &[u8], kind: u16, index: u16, second: u16, out: &mut Numbers) -> usize {
     unsafe { container_ask(file.as_ptr(), file.len(), kind, index, second, out.as_mut_ptr(), out.len()) }
+}
+
+/// The same of a lookup over the numbers of a record.
+pub fn lookup(file: &[u8], record: &[u64], kind: u16, index: u16, second: u16, out: &mut Numbers) -> usize {
+    let (numbers, room) = (record.len(), out.len());
+    unsafe { container_lookup(file.as_ptr(), file.len(), record.as_ptr(), numbers, kind, index, second, out.as_mut_ptr(), room) }
 }
 
 /// The same of the content hash, whose bytes are put into `digest`.

@@ -16,7 +16,8 @@ pub record RunAlike (f g : List ℕ) : Type 0 where
   pub answers : (readFrom blake3 f >>= λ r. found (runRecordOf f r)) ≡ (readFrom blake3 g >>= λ s. found (runRecordOf g s))
   pub tables : (load blake3 f >>= λ a. found (runOf f a)) ≡ (load blake3 g >>= λ b. found (runOf g b))
 
--- the premises: headers that agree outside the debug bit, the debug hash and the directory, and the same four sections, wherever they lie
+-- the premises: both files within the limit, headers that agree outside the debug bit, the debug hash and the directory, and the same four sections, which lie
+-- in both files behind the header, empty types anywhere
 abbrev pub SameRun : List ℕ → List ℕ → Type 0
 SameRun f g = SameRunSide f g → RunAlike f g
 

@@ -3,57 +3,7 @@
 use crate::bytes::hex;
 use crate::records::{CONSTANTS, DEBUG, FUNCTIONS, LOADED, PLACES, TASKS, TYPES};
 #[cfg(feature = "library")]
-use crate::{port::Reply, questions::Question, records};
-
-#[cfg(feature = "library")]
-unsafe extern "C" {
-    fn container_load(file: *const u8, length: usize, out: *mut u64, room: usize) -> usize;
-    fn container_ask(
-        file: *const u8,
-        length: usize,
-        kind: u16,
-        index: u16,
-        second: u16,
-        out: *mut u64,
-        room: usize,
-    ) -> usize;
-    fn container_lookup(
-        file: *const u8,
-        length: usize,
-        record: *const u64,
-        numbers: usize,
-        kind: u16,
-        index: u16,
-        second: u16,
-        out: *mut u64,
-        room: usize,
-    ) -> usize;
-    fn container_line(
-        file: *const u8,
-        length: usize,
-        function: u16,
-        offset: u16,
-        out: *mut u64,
-        room: usize,
-    ) -> usize;
-    fn container_content_hash(
-        file: *const u8,
-        length: usize,
-        digest: *mut u8,
-        digest_length: usize,
-        out: *mut u64,
-        room: usize,
-    ) -> usize;
-    fn container_hash(
-        bytes: *const u8,
-        length: usize,
-        digest: *mut u8,
-        digest_length: usize,
-        out: *mut u64,
-        room: usize,
-    ) -> usize;
-    fn container_list(file: *const u8, length: usize, out: *mut u8, room: usize) -> usize;
-}
+use crate::{functions::*, port::Reply, questions::Question, records};
 
 /// The library's kinds of lookup, each at the place that is its number.
 pub const KINDS: [&str; 26] = [

@@ -11,6 +11,8 @@
 mod answers;
 mod bytes;
 mod compare;
+#[cfg(feature = "library")]
+mod functions;
 mod generate;
 #[cfg(any(feature = "library", test))]
 mod library;
