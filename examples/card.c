@@ -5,7 +5,7 @@
 #include <inttypes.h>
 #include <stdio.h>
 
-/* One byte beyond the library's limit: a longer file is cut there, and refused with 10. */
+/* One byte beyond this program's limit: a file that fills it may be cut, and is refused with 10, whatever the library's limit is. */
 static uint8_t file[65537];
 static uint64_t record[CONTAINER_ROOM];
 static uint64_t numbers[CONTAINER_ROOM];
@@ -21,6 +21,9 @@ static int refused(const uint64_t *refusal, size_t count) {
 
 /* Loads the file, once: its record is in `record`. */
 static int load(size_t length) {
+    const uint64_t too_long = CONTAINER_TOO_LONG;
+    if (length == sizeof file)
+        return refused(&too_long, 1);
     size_t count = container_load(file, length, record, CONTAINER_ROOM);
     return record[0] != 0 ? refused(record, count) : 0;
 }

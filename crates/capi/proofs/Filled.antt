@@ -3,16 +3,13 @@ use Prim.Native.Nat.{ℕ, _+_, _<_, _≤_}
 use mathlib.Core.Path.{_≡_, sym, ap, _∙_}
 use mathlib.Core.Bool.{true, false, and-false}
 use mathlib.Core.Logic.{_⊎_, inl, inr}
-use mathlib.Core.List.{List, _++_}
+use mathlib.Core.List.{List}
 use native.Mathlib.Nat.{zero-add}
 use native.Mathlib.Omega.{arith}
 use borrow.Author.Tests.{le-leb, lt-leb}
-use lib.ListN.{length, take, drop}
+use lib.ListN.{length, take}
 use lib.Seq.{take-all}
-use Rattle.reading.specs.Numbers.{bytesLe, wordBytes}
 use Rattle.reading.specs.Answer.{Got}
-use Rattle.base.specs.Digest.{digestBytes}
-use Rattle.base.specs.declared.digest.Digest.{Digest}
 use Rattle.answer_numbers.specs.Answers.{capacity}
 use Rattle.lent.specs.Output.{putAtStart, Wrote}
 use Rattle.lent.proofs.Laws.{laws}
@@ -22,7 +19,7 @@ use Rattle.capi.specs.Lent.{room, digestRoom, hasRoom, Answered, hashNum
 pub answered-none : (l ns : List ℕ) → length l < room → Answered l ns l 0
 answered-none l ns h = let no : hasRoom l ≡ false = lt-leb room (length l) h in record { answer = rw no; buffer = rw no }
 
-put-all : {before t after : List ℕ} {r : ℕ} → Wrote before 0 t after r → (r ≡ length t) × (after ≡ putAtStart before t)
+pub put-all : {before t after : List ℕ} {r : ℕ} → Wrote before 0 t after r → (r ≡ length t) × (after ≡ putAtStart before t)
 put-all w = laws .at-start w
 
 pub answered : {before ns after : List ℕ} {r : ℕ} → room ≤ length before → Wrote before 0 ns after r → Answered before ns after r
@@ -35,11 +32,7 @@ answered-as e s = rw (← e) s
 pub all-numbers : (count : ℕ) (ns : List ℕ) → length ns ≡ capacity → capacity ≤ count → ns ≡ take count ns
 all-numbers count ns e h = sym (take-all count ns (omega arith))
 
--- a digest that is put; no room for a hash; the numbers and bytes of one
-pub put-whole : (d : Digest) {before after : List ℕ} {r : ℕ} → Wrote before 0 (digestBytes d) after r → after ≡ digestBytes d ++ drop digestRoom before
-unfolding wordBytes bytesLe
-put-whole d w = put-all w .1
-
+-- no room for a hash; the numbers and bytes of one
 module _ (g : Got (List ℕ)) (digest out : List ℕ) where
   pub hashed-none : (length digest < digestRoom) ⊎ (length out < room) → Hashed g digest digest out out 0
   hashed-none h = let no : hasBoth digest out ≡ false = no-both h in record { answer = rw no; numbers = rw no; bytes = rw no }

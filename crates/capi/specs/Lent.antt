@@ -1,10 +1,10 @@
 -- What a function leaves in the caller's buffers: `before` becomes `after`, and the function returns r.
 use Prim.Native.Nat.{ℕ, _≤_}
 use mathlib.Core.Bool.{Bool, _&&_, cond}
-use mathlib.Core.List.{List, [], _++_}
+use mathlib.Core.List.{List, []}
 use mathlib.Core.Path.{_≡_}
 use lib.Dec.{leb}
-use lib.ListN.{length, drop}
+use lib.ListN.{length}
 use Rattle.reading.specs.Answer.{Got, refused, found}
 use Rattle.lent.specs.Output.{putAtStart}
 use Rattle.answer_numbers.specs.Fields.{answerNumbers}
@@ -30,7 +30,7 @@ hashNumbers g = answerNumbers (λ d. []) g
 
 abbrev pub digestPut : Got (List ℕ) → List ℕ → List ℕ
 digestPut (refused f) before = before
-digestPut (found d) before = d ++ drop digestRoom before
+digestPut (found d) before = putAtStart before d
 
 -- With room for 32 bytes and for 64 numbers both are written, and r is the count of the numbers. With less room in either both buffers are as they were and r is 0
 abbrev pub hasBoth : List ℕ → List ℕ → Bool

@@ -1,10 +1,10 @@
 // Numbers and digests in the buffers that the caller lends.
 ghost use Prim.Native.Nat.{_≤_};
 ghost use mathlib.Core.Path.{_≡_};
-ghost use mathlib.Core.List.{_++_};
-ghost use lib.ListN.{length, drop};
+ghost use lib.ListN.{length};
 ghost use Rattle.base.specs.Digest.{digestBytes};
 ghost use Rattle.blake3.specs.Blake3.{hashFrom};
+ghost use Rattle.lent.specs.Output.{putAtStart};
 ghost use Rattle.answer_numbers.specs.Answers.{numbersIn};
 ghost use Rattle.capi.specs.Lent.{digestRoom, Answered, Hashed};
 use answer_numbers::CAPACITY;
@@ -37,7 +37,7 @@ pub fn put_answer(out: &mut [u64], answer: Numbers) -> usize
 // The 32 bytes of a digest at the start of the buffer.
 fn put_digest(out: &mut [u8], digest: Digest)
     requires { ⌜ digestRoom ≤ length (now out) ⌝ }
-    ensures { λ _. ⌜ now (out .exit) ≡ digestBytes digest ++ drop digestRoom (now (out .entry)) ⌝ }
+    ensures { λ _. ⌜ now (out .exit) ≡ putAtStart (now (out .entry)) (digestBytes digest) ⌝ }
 {
     let bytes = digest.bytes();
     put_bytes(out, 0, &bytes);

@@ -20,7 +20,7 @@ use Rattle.format.specs.Load.{hasTypes, typesFound, debugFound, DebugState, emp
 use Rattle.format.specs.Record.{TypeCounts, DebugCounts, typeCounts, tableCounts, debugCounts, stateCounts}
 use Rattle.format.proofs.Answers.{never, same-found}
 use Rattle.format.proofs.Places.{length-cut, inside-is}
-use Rattle.format.proofs.DebugStates.{debug-states}
+use Rattle.format.proofs.DebugStates.{debug-states, section-decides}
 use Rattle.base.specs.Section.{sectionPart}
 use Rattle.base.proofs.FileLookups.{sliced, slice-is}
 use Rattle.blake3.specs.Blake3.{blake3}
@@ -157,7 +157,7 @@ module _ (f : List ℕ) (h : Header) where
       let a = length-cut f p (s .inside) in
       let b = inside-is f p (s .inside) .within in
       let w : length (cut f p) ≤ hashLimit = omega arith in
-      rw (le-leb _ _ l) (e ∙ ap (sectionState (h .debugHash)) (s .bytes) ∙ go (debugFits (h .debugHash) (cut f p)) (laws .debug (h .debugHash) (cut f p) w) (debug-states blake3 f h .hash-unequal (omega arith) (s .inside)) (debug-states blake3 f h .section-decides (omega arith) (s .inside)))
+      rw (le-leb _ _ l) (e ∙ ap (sectionState (h .debugHash)) (s .bytes) ∙ go (debugFits (h .debugHash) (cut f p)) (laws .debug (h .debugHash) (cut f p) w) (debug-states blake3 f h .hash-unequal (omega arith) (s .inside)) (section-decides blake3 f h (omega arith) (s .inside)))
     where
       go : (b : Bool) {c : Bool} {x : DebugState (Tables (List ℕ))} → b ≡ c → (c ≡ false → debugState blake3 f h ≡ hashDiffers) → (c ≡ true → debugState blake3 f h ≡ x)
           → cond b (stateCounts x) hashDiffers ≡ stateCounts (debugState blake3 f h)

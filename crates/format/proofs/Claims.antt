@@ -2,7 +2,7 @@
 use Rattle.format.specs.Claims.{AllClaims}
 use Rattle.format.proofs.Refusals.{refusals}
 use Rattle.format.proofs.Order.{order}
-use Rattle.format.proofs.DebugStates.{debug-states}
+use Rattle.format.proofs.DebugStates.{debug-states, counted-states}
 use Rattle.format.proofs.PlacesHold.{places-hold}
 use Rattle.format.proofs.OwnRecord.{own-record}
 use Rattle.format.proofs.RunSide.{premises, run-side-independence, run-side-of-records}
@@ -19,6 +19,7 @@ claims-hold hash =
       refusals = refusals hash;
       order = order;
       debug-states = debug-states hash;
+      counted-states = counted-states;
       places-hold = places-hold;
       own-record = own-record hash;
       indexing = indexing;

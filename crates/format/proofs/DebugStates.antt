@@ -1,18 +1,19 @@
 -- The states of a file's debug section.
 use Prim.Native.Nat.{ℕ, _<_}
-use mathlib.Core.Path.{_≡_, refl}
+use mathlib.Core.Path.{_≡_, refl, _∙_, ap}
 use mathlib.Core.Bool.{Bool, true, false, not, _&&_, cond}
 use mathlib.Core.List.{List}
 use mathlib.Core.Option.{none}
 use native.Mathlib.Omega.{arith}
 use borrow.Author.Tests.{lt-ltb, le-ltb}
+use Rattle.reading.specs.Fault.{Fault}
 use Rattle.reading.specs.Reader.{Read, fault, got}
 use Rattle.format.specs.Parts.{cut, isInside, byBytes}
 use Rattle.format.specs.Header.{Header}
 use Rattle.format.specs.Integrity.{debugHashFits}
 use Rattle.format.specs.Debug.{Tables, debugTables}
-use Rattle.format.specs.Load.{empty, outside, hashDiffers, stateOfRead, debugSized, debugInside, debugHashRight, readable, debugOf, debugFound, debugState, debugKept}
-use Rattle.format.specs.DebugStates.{DebugStates}
+use Rattle.format.specs.Load.{empty, outside, hashDiffers, unreadable, read, stateOfRead, debugSized, debugInside, debugHashRight, readable, debugOf, debugFound, debugState, debugKept}
+use Rattle.format.specs.DebugStates.{DebugStates, CountedStates}
 
 module _ (hash : List ℕ → List ℕ) (f : List ℕ) (h : Header) where
   size-zero : h .directory .debug .size ≡ 0 → debugState hash f h ≡ empty
@@ -29,9 +30,17 @@ module _ (hash : List ℕ → List ℕ) (f : List ℕ) (h : Header) where
       unfolding debugState
       hash-unequal d = rw (lt-ltb 0 (h .directory .debug .size) sized, inside, d)
 
-      section-decides : debugHashFits hash (h .debugHash) (cut f (h .directory .debug)) ≡ true → debugState hash f h ≡ stateOfRead (debugTables byBytes (cut f (h .directory .debug)))
+      -- what the reader answers decides
+      pub section-decides : debugHashFits hash (h .debugHash) (cut f (h .directory .debug)) ≡ true → debugState hash f h ≡ stateOfRead (debugTables byBytes (cut f (h .directory .debug)))
       unfolding debugState
       section-decides d = rw (lt-ltb 0 (h .directory .debug .size) sized, inside, d)
+
+      module _ (fits : debugHashFits hash (h .debugHash) (cut f (h .directory .debug)) ≡ true) where
+        section-faulty : (e : Fault) → debugTables byBytes (cut f (h .directory .debug)) ≡ fault e → debugState hash f h ≡ unreadable e
+        section-faulty e x = section-decides fits ∙ ap stateOfRead x
+
+        section-reads : (t : Tables (List ℕ)) (rest : List ℕ) → debugTables byBytes (cut f (h .directory .debug)) ≡ got t rest → debugState hash f h ≡ read t
+        section-reads t rest x = section-decides fits ∙ ap stateOfRead x
 
   kept : debugKept (debugState hash f h) ≡ debugFound hash f h
   unfolding debugState debugFound debugOf
@@ -45,4 +54,7 @@ module _ (hash : List ℕ → List ℕ) (f : List ℕ) (h : Header) where
       go false b c x = refl
 
   pub debug-states : DebugStates hash f h
-  debug-states = record { size-zero = size-zero; not-inside = not-inside; hash-unequal = hash-unequal; section-decides = section-decides; kept = kept }
+  debug-states = record { size-zero = size-zero; not-inside = not-inside; hash-unequal = hash-unequal; section-faulty = section-faulty; section-reads = section-reads; kept = kept }
+
+pub counted-states : CountedStates
+counted-states = record { empty-stays = refl; outside-stays = refl; hash-differs-stays = refl; unreadable-stays = λ e. refl; read-counted = λ t. refl }

@@ -219,8 +219,12 @@ bare = recordWith none none (placed []) 0
 abbrev long : List ℕ
 long = replicate (suc limit) 0
 
+-- for any number: the limit's zeros are not computed
+zeros-more : (n : ℕ) → n < length {A = ℕ} (replicate (suc n) 0)
+zeros-more n = rw (length-replicate {A = ℕ} (suc n) 0) (omega arith)
+
 long-is : limit < length long
-long-is = rw (length-replicate {A = ℕ} (suc limit) 0) (omega arith)
+long-is = zeros-more limit
 
 module _ (s : List ℕ) (n : ℕ) (few : length s ≤ 100) where
   within-limit : length (holding s) ≤ limit

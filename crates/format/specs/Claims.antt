@@ -4,7 +4,7 @@ use mathlib.Core.List.{List}
 use Rattle.reading.specs.Answer.{Got}
 use Rattle.format.specs.Header.{Header}
 use Rattle.format.specs.Load.{Loaded}
-use Rattle.format.specs.DebugStates.{DebugStates}
+use Rattle.format.specs.DebugStates.{DebugStates, CountedStates}
 use Rattle.format.specs.Record.{Container}
 use Rattle.format.specs.ProgramLimit.{ProgramLimit}
 use Rattle.format.specs.OwnRecord.{PlacesHold, OwnRecord}
@@ -23,6 +23,7 @@ pub record Claims (hash : List ℕ → List ℕ) : Type 0 where
   pub refusals : Refusals hash
   pub order : Order
   pub debug-states : (f : List ℕ) (h : Header) → DebugStates hash f h
+  pub counted-states : CountedStates
   pub places-hold : (f : List ℕ) (r : Container) → PlacesHold f r
   pub own-record : OwnRecord hash
   pub indexing : Indexing

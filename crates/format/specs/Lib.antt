@@ -9,8 +9,8 @@ pub mod Debug
 pub mod Lines
 pub mod Integrity
 pub mod Load
-pub mod DebugStates
 pub mod Record
+pub mod DebugStates
 pub mod ProgramLimit
 pub mod Lookups
 pub mod RunSide

@@ -11,7 +11,7 @@ use Rattle.lent.specs.declared.Put.the-variants as put
 use Rattle.text.specs.Text.{ascii}
 use Rattle.listing.specs.Listing.{listingOf}
 
--- the bytes that the program `lister` lends for the text of a file
+-- the bytes that a program lends for the text of a file: the page of `file_listing`
 abbrev pub listingRoom : ℕ
 listingRoom = 2097152
 

@@ -19,8 +19,9 @@ pub fn file_room() -> [u8; FILE_ROOM]
     [0; FILE_ROOM]
 }
 
-// Reads standard input until `room` is full, the input ends or a read fails; the result is how many bytes of `room` are filled.
-pub fn read_input(room: &mut [u8]) -> usize
+// Reads standard input until `room` is full, the input ends or a read fails; the result is how many bytes of `room` are filled. With less room
+// a longer input would pass for one within the limit.
+pub fn read_input(room: &mut [u8; FILE_ROOM]) -> usize
     ensures { λ r. ⌜ Counts r (now (room .exit)) ⌝ }
 {
     io::read_full(STDIN_FILENO, room)

@@ -11,6 +11,7 @@ use Rattle.format.specs.Record.{TypeCounts, DebugCounts, Container}
 use Rattle.record_numbers.specs.ToNumbers.{recordNumbers}
 use Rattle.record_numbers.specs.FromNumbers.{numberCount, mostCount, mostWith, mostNumbers, mostOfFields, fits, recordBy, recordOfFirst, recordOfNumbers, numberAt, typesFlagAt, constantsPlace, debugFlagAt}
 use Rattle.record_numbers.specs.Laws.{withoutHashes, Fits, Laws}
+use Rattle.record_numbers.proofs.Mill.{mill-numbers}
 use Rattle.record_numbers.proofs.Fitting.{too-short, too-large-at, no-record, fields-fit}
 
 -- a record with these types and debug
@@ -103,4 +104,5 @@ laws =
       too-large = too-large;
       no-types = no-types;
       no-debug = no-debug;
+      mill-numbers = mill-numbers;
     }

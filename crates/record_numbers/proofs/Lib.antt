@@ -1,2 +1,3 @@
 pub mod Fitting
+pub mod Mill
 pub mod Laws

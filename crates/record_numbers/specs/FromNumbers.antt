@@ -5,7 +5,7 @@ use mathlib.Core.List.{List, [], _∷_, _++_}
 use mathlib.Core.Option.{Option, none, some}
 use lib.Dec.{leb, eqb}
 use lib.ListN.{getD, take, replicate}
-use Rattle.format.specs.Parts.{Place}
+use Rattle.format.specs.Parts.{hashSize, Place}
 use Rattle.format.specs.Header.{Header, Directory, Runtime}
 use Rattle.format.specs.Record.{TaskCounts, TypeCounts, DebugCounts, Container}
 
@@ -81,10 +81,10 @@ headerWithout version profile flags directory runtime =
       version = version;
       profile = profile;
       flags = flags;
-      contentHash = replicate 32 0;
-      reservedHash = replicate 32 0;
-      debugHash = replicate 32 0;
-      layoutHash = replicate 32 0;
+      contentHash = replicate hashSize 0;
+      reservedHash = replicate hashSize 0;
+      debugHash = replicate hashSize 0;
+      layoutHash = replicate hashSize 0;
       directory = directory;
       runtime = runtime;
       reserved = replicate 38 0;

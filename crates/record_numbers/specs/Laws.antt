@@ -1,21 +1,35 @@
 -- The laws of numbers and records: the numbers of a record give it back, and which numbers give none.
 use Prim.Native.Nat.{ℕ, _<_, _≤_}
-use mathlib.Core.List.{List, _∷_, _++_}
+use mathlib.Core.List.{List, [], _∷_, _++_}
 use mathlib.Core.Option.{none, some}
 use mathlib.Core.Path.{_≡_}
 use mathlib.Core.Bool.{true}
-use lib.ListN.{length, getD, take}
-use Rattle.format.specs.Header.{Header}
-use Rattle.format.specs.Record.{Container}
+use lib.ListN.{length, getD, take, replicate}
+use Rattle.format.specs.Parts.{hashSize}
+use Rattle.reading.specs.Answer.{found, _>>=_}
+use Rattle.format.specs.Record.{Container, readFrom}
+use Rattle.format.specs.Examples.{mill}
 use Rattle.record_numbers.specs.ToNumbers.{recordNumbers}
-use Rattle.record_numbers.specs.FromNumbers.{numberCount, mostOfFields, fits, headerWithout, typesFlagAt, constantsPlace, debugFlagAt, numberAt, recordOfNumbers}
+use Rattle.record_numbers.specs.FromNumbers.{numberCount, mostOfFields, fits, typesFlagAt, constantsPlace, debugFlagAt, numberAt, recordOfNumbers}
 
--- a record whose hashes and reserved bytes are zero, with the magic of every file that loads
+-- the record with zeros for its hashes and reserved bytes, and with the magic of every file that loads
 abbrev pub withoutHashes : Container → Container
 withoutHashes c =
-    let h = c .header in
     record {
-      header = headerWithout (h .version) (h .profile) (h .flags) (h .directory) (h .runtime);
+      header =
+          record {
+            magic = 0x49504C43;
+            version = c .header .version;
+            profile = c .header .profile;
+            flags = c .header .flags;
+            contentHash = replicate hashSize 0;
+            reservedHash = replicate hashSize 0;
+            debugHash = replicate hashSize 0;
+            layoutHash = replicate hashSize 0;
+            directory = c .header .directory;
+            runtime = c .header .runtime;
+            reserved = replicate 38 0;
+          };
       tasks = c .tasks;
       types = c .types;
       constants = c .constants;
@@ -25,6 +39,17 @@ withoutHashes c =
 -- each number of a record fits its field, as those of every record of the code do
 pub record Fits (c : Container) : Type 0 where
   pub all : fits mostOfFields (0 ∷ recordNumbers c) ≡ true
+
+-- the numbers of document 01's mill file M
+abbrev pub millNumbers : List ℕ
+millNumbers =
+    (0 ∷ 4 ∷ 0 ∷ 6 ∷ [])  -- 0, then version, profile, flags
+    ++ (0 ∷ 0 ∷ 0 ∷ 0 ∷ 310 ∷ 16 ∷ 256 ∷ 54 ∷ 326 ∷ 16 ∷ 342 ∷ 21 ∷ 363 ∷ 42 ∷ [])  -- the two signatures, types, tasks, constants, code, debug
+    ++ (0 ∷ 0 ∷ 0 ∷ 0 ∷ 0 ∷ 0 ∷ 1 ∷ 0 ∷ 0 ∷ 0 ∷ 0 ∷ [])  -- the runtime numbers: one function
+    ++ (1 ∷ 1 ∷ 0 ∷ [])  -- a task, a program, no shared globals
+    ++ (1 ∷ 0 ∷ 1 ∷ 0 ∷ [])  -- there are types: one array
+    ++ (2 ∷ [])  -- constants
+    ++ (1 ∷ 3 ∷ 0 ∷ 0 ∷ 0 ∷ 0 ∷ 0 ∷ [])  -- there is debug: three lines
 
 pub record Laws : Type 0 where
   -- the numbers of a record, with any numbers behind them, give the record back
@@ -39,3 +64,5 @@ pub record Laws : Type 0 where
   pub too-large : (ns : List ℕ) (k : ℕ) → k < numberCount → getD mostOfFields k 0 < numberAt ns k → recordOfNumbers ns ≡ none
   pub no-types : (ns : List ℕ) (k : ℕ) → typesFlagAt < k → k < constantsPlace → numberAt ns typesFlagAt ≡ 0 → 0 < numberAt ns k → recordOfNumbers ns ≡ none
   pub no-debug : (ns : List ℕ) (k : ℕ) → debugFlagAt < k → k < numberCount → numberAt ns debugFlagAt ≡ 0 → 0 < numberAt ns k → recordOfNumbers ns ≡ none
+  -- which number is which: what loading M writes, for any hash
+  pub mill-numbers : (hash : List ℕ → List ℕ) → (readFrom hash mill >>= λ r. found (0 ∷ recordNumbers r)) ≡ found millNumbers

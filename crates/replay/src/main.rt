@@ -3,8 +3,9 @@
 ghost use Prim.Native.Nat.{_<_};
 use file_listing::page;
 use file_listing::put_on_page;
+use io::read_full;
+use libc::STDIN_FILENO;
 use programs::first;
-use programs::read_input;
 use programs::write;
 
 // More than the files have.
@@ -46,6 +47,6 @@ fn replay(files: &[u8]) {
 
 fn main() {
     let mut files = room();
-    let n = read_input(&mut files);
+    let n = read_full(STDIN_FILENO, &mut files);
     replay(&files[..n]);
 }
