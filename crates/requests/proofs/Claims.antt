@@ -1,0 +1,6 @@
+-- The claims of document 02's slips, slip by slip.
+use Rattle.requests.specs.Claims.{AllClaims}
+use Rattle.requests.proofs.BadPlace.{bad-places, bad-places-in-files, still-none, bad-place-examples}
+
+pub claims-hold : AllClaims
+claims-hold hash = record { bad-places = bad-places; bad-places-in-files = bad-places-in-files; still-none = still-none hash; bad-place-examples = bad-place-examples }

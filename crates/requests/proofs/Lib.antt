@@ -1,0 +1,2 @@
+pub mod BadPlace
+pub mod Claims
