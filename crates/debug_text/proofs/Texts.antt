@@ -40,11 +40,11 @@ module _ (base : ℕ) (s : List ℕ) (at n : ℕ) where
         let z : base + length s - (length s - at - n) - n ≡ base + at = omega arith in
         rw (bytes-at n s at (at + n) refl h, eq-eqb (validUpTo (take n (drop at s))) (length (take n (drop at s))) (omega arith), d, l, z)
 
-    pub text-bad : validUpTo (take n (drop at s)) < n → text (keepIn base s) n (drop at s) ≡ fault (badText (length s - at - validUpTo (take n (drop at s))))
+    pub text-bad : validUpTo (take n (drop at s)) < n → text (keepIn base s) n (drop at s) ≡ fault (badText (length s - (at + validUpTo (take n (drop at s)))))
     unfolding text utf8
     text-bad g =
         let l = length-part s at n h in
-        rw (bytes-at n s at (at + n) refl h, ne-eqb (validUpTo (take n (drop at s))) (length (take n (drop at s))) (λ e. omega arith), length-drop at s)
+        rw (bytes-at n s at (at + n) refl h, ne-eqb (validUpTo (take n (drop at s))) (length (take n (drop at s))) (λ e. omega arith), length-drop at s) (ap (λ (k : ℕ). fault (badText k)) (omega arith))
 
 -- a text's place ends where reading continues
 pub text-ends : (base : ℕ) (s x : List ℕ) (n : ℕ) (q : Place) (t : List ℕ) → length x ≤ length s → text (keepIn base s) n x ≡ got q t → q .offset + q .size + length t ≡ base + length s

@@ -1,5 +1,5 @@
 -- What the code's answers mean.
-use Prim.Native.Nat.{ℕ, _+_, _^_, _<_}
+use Prim.Native.Nat.{ℕ, _+_, _-_, _^_, _<_}
 use mathlib.Core.List.{List}
 use lib.ListN.{length}
 use Rattle.reading.specs.Fault.{Fault, shortInput, badText}
@@ -27,27 +27,28 @@ InFile base s = base + length s < 2 ^ 64
 abbrev pub keepIn : ℕ → List ℕ → Keep Place
 keepIn base s = byPlace (record { offset = base; size = length s })
 
--- the fault stays inside the reader: lookups answer 15 for a section that does not read
-abbrev pub debugFaultOf : DebugFault → Fault
-debugFaultOf debugFault.Short = shortInput
-debugFaultOf (debugFault.BadText n) = badText n
+-- why the section `s` does not read: a bad text's place stands for how many bytes of it are left from there on. The fault stays inside the reader:
+-- lookups answer 15 for a section that does not read
+abbrev pub debugFaultOf : List ℕ → DebugFault → Fault
+debugFaultOf s debugFault.Short = shortInput
+debugFaultOf s (debugFault.BadText p) = badText (length s - p)
 
-abbrev pub wayOf : DebugWalk → Way
-wayOf (walk.Fault e) = stopsBy (debugFaultOf e)
-wayOf (walk.At m) = onTo m
+abbrev pub wayOf : List ℕ → DebugWalk → Way
+wayOf s (walk.Fault e) = stopsBy (debugFaultOf s e)
+wayOf s (walk.At m) = onTo m
 
 -- Names and paths
 
-abbrev pub textStep : TextStep → Step Place
-textStep (stepText.Fault e) = stops (debugFaultOf e)
-textStep (stepText.Text x m) = item (partIn x) m
+abbrev pub textStep : List ℕ → TextStep → Step Place
+textStep s (stepText.Fault e) = stops (debugFaultOf s e)
+textStep s (stepText.Text x m) = item (partIn x) m
 
-abbrev pub nameFound : NameFound → Got Place
-nameFound (foundName.Fault e) = refused (debugFaultOf e)
-nameFound foundName.NoEntry = refused noEntry
-nameFound (foundName.Name x) = found (partIn x)
+abbrev pub nameFound : List ℕ → NameFound → Got Place
+nameFound s (foundName.Fault e) = refused (debugFaultOf s e)
+nameFound s foundName.NoEntry = refused noEntry
+nameFound s (foundName.Name x) = found (partIn x)
 
-abbrev pub nameWalk : NameWalk → Next Place
-nameWalk walkName.End = ends
-nameWalk (walkName.Fault e) = faulty (debugFaultOf e)
-nameWalk (walkName.Name x t) = entry (partIn x) t
+abbrev pub nameWalk : List ℕ → NameWalk → Next Place
+nameWalk s walkName.End = ends
+nameWalk s (walkName.Fault e) = faulty (debugFaultOf s e)
+nameWalk s (walkName.Name x t) = entry (partIn x) t

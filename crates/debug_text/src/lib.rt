@@ -26,7 +26,7 @@ const PATH_LENGTH_SIZE: usize = 2;
 pub enum DebugFault {
     // It ends before an announced item.
     Short,
-    // A text is not UTF-8: the number of bytes left in the section, counted from the first bad byte.
+    // A text is not UTF-8: the place in the section of its first bad byte.
     BadText(usize),
 }
 
@@ -59,7 +59,7 @@ pub enum NameWalk {
 // The text of `n` bytes at `at`.
 pub fn read_text(s: &[u8], base: usize, at: usize, n: usize) -> TextStep
     requires { ⌜ (at ≤ length (now s)) × InFile base (now s) ⌝ }
-    ensures { λ r. ⌜ textStep r ≡ stepAt (text (keepIn base (now (s .entry))) n) (now (s .entry)) at ⌝ }
+    ensures { λ r. ⌜ textStep (now (s .entry)) r ≡ stepAt (text (keepIn base (now (s .entry))) n) (now (s .entry)) at ⌝ }
 {
     if s.len() - at < n {
         return TextStep::Fault(DebugFault::Short);
@@ -67,7 +67,7 @@ pub fn read_text(s: &[u8], base: usize, at: usize, n: usize) -> TextStep
     let end = at + n;
     let good = valid_up_to(&s[at..end]);
     if good < n {
-        return TextStep::Fault(DebugFault::BadText(s.len() - at - good));
+        return TextStep::Fault(DebugFault::BadText(at + good));
     }
     TextStep::Text(
         Part {
@@ -80,7 +80,7 @@ pub fn read_text(s: &[u8], base: usize, at: usize, n: usize) -> TextStep
 
 pub fn read_name(s: &[u8], base: usize, at: usize) -> TextStep
     requires { ⌜ (at ≤ length (now s)) × InFile base (now s) ⌝ }
-    ensures { λ r. ⌜ textStep r ≡ stepAt (name (keepIn base (now (s .entry)))) (now (s .entry)) at ⌝ }
+    ensures { λ r. ⌜ textStep (now (s .entry)) r ≡ stepAt (name (keepIn base (now (s .entry)))) (now (s .entry)) at ⌝ }
 {
     if s.len() - at < NAME_LENGTH_SIZE {
         return TextStep::Fault(DebugFault::Short);
@@ -91,7 +91,7 @@ pub fn read_name(s: &[u8], base: usize, at: usize) -> TextStep
 
 pub fn read_path(s: &[u8], base: usize, at: usize) -> TextStep
     requires { ⌜ (at ≤ length (now s)) × InFile base (now s) ⌝ }
-    ensures { λ r. ⌜ textStep r ≡ stepAt (path (keepIn base (now (s .entry)))) (now (s .entry)) at ⌝ }
+    ensures { λ r. ⌜ textStep (now (s .entry)) r ≡ stepAt (path (keepIn base (now (s .entry)))) (now (s .entry)) at ⌝ }
 {
     if s.len() - at < PATH_LENGTH_SIZE {
         return TextStep::Fault(DebugFault::Short);
@@ -103,7 +103,7 @@ pub fn read_path(s: &[u8], base: usize, at: usize) -> TextStep
 // Skips the `n` names from `at` on.
 pub fn skip_names(s: &[u8], base: usize, at: usize, n: usize) -> DebugWalk
     requires { ⌜ (at ≤ length (now s)) × InFile base (now s) ⌝ }
-    ensures { λ r. ⌜ wayOf r ≡ wayAt (many n (name (keepIn base (now (s .entry))))) (now (s .entry)) at ⌝ }
+    ensures { λ r. ⌜ wayOf (now (s .entry)) r ≡ wayAt (many n (name (keepIn base (now (s .entry))))) (now (s .entry)) at ⌝ }
 {
     let mut p = at;
     let mut i = 0;
@@ -124,7 +124,7 @@ pub fn skip_names(s: &[u8], base: usize, at: usize, n: usize) -> DebugWalk
 // The name with index `k` among the `n` names from `at` on.
 pub fn find_name(s: &[u8], base: usize, at: usize, n: usize, k: usize) -> NameFound
     requires { ⌜ InFile base (now s) ⌝ }
-    ensures { λ r. ⌜ nameFound r ≡ picked (name (keepIn base (now (s .entry)))) (now (s .entry)) at n k ⌝ }
+    ensures { λ r. ⌜ nameFound (now (s .entry)) r ≡ picked (name (keepIn base (now (s .entry)))) (now (s .entry)) at n k ⌝ }
 {
     if n <= k {
         return NameFound::NoEntry;
@@ -144,7 +144,7 @@ pub fn find_name(s: &[u8], base: usize, at: usize, n: usize, k: usize) -> NameFo
 // The next name of a walk.
 pub fn next_name(s: &[u8], base: usize, t: Table) -> NameWalk
     requires { ⌜ InFile base (now s) ⌝ }
-    ensures { λ r. ⌜ nameWalk r ≡ stepOf (name (keepIn base (now (s .entry)))) (now (s .entry)) t ⌝ }
+    ensures { λ r. ⌜ nameWalk (now (s .entry)) r ≡ stepOf (name (keepIn base (now (s .entry)))) (now (s .entry)) t ⌝ }
 {
     let at = t.at;
     let count = t.count;

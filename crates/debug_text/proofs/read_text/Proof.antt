@@ -1,6 +1,6 @@
 -- `debug_text::read_text` meets its contract: short, bad from its first bad byte on, or good.
 use mathlib.Core.Path.{_≡_, sym, ap, _∙_}
-use Prim.Native.Nat.{_-_}
+use Prim.Native.Nat.{_+_, _-_}
 use native.Mathlib.Nat.{add-sub-cancel-left}
 use native.Mathlib.Omega.{arith}
 use lib.ListN.{length, take, drop}
@@ -25,7 +25,7 @@ returns-2 : tie.Need-returns-2
 returns-2 c =
     let a = c .before .before .before .before .before .args in
     let e = good (c .before) in
-    step-at _ _ _ _ (text-bad (a .base) (now (a .s)) (a .at) (a .n) (omega arith) (rw e at (c .if2 .taken)) ∙ ap (λ k. fault (badText (length (now (a .s)) - a .at - k))) (sym e))
+    step-at _ _ _ _ (text-bad (a .base) (now (a .s)) (a .at) (a .n) (omega arith) (rw e at (c .if2 .taken)) ∙ ap (λ k. fault (badText (length (now (a .s)) - (a .at + k)))) (sym e))
 
 returns-3 : tie.Need-returns-3
 returns-3 c =
@@ -44,7 +44,6 @@ read-text-spec =
     (λ c. search needs)
     (λ c. search needs)
     (λ c κs. search needs)
-    (λ c. search needs)
     (λ c. search needs)
     returns-2
     (λ c. search needs)
