@@ -1,2 +1,3 @@
 pub mod Picked
 pub mod Answers
+pub mod Laws

@@ -13,6 +13,7 @@ ghost use Rattle.reading.specs.Places.{stepAt, wayAt, stepOf};
 ghost use Rattle.format.specs.Debug.{text, name, path};
 ghost use Rattle.debug_text.specs.Answers.{InFile, keepIn, wayOf, textStep, nameFound, nameWalk};
 ghost use Rattle.debug_text.specs.Picked.{picked};
+ghost use Rattle.debug_text.specs.Laws.{Laws};
 
 // The size of a count: of rows, of entries, of values.
 pub const COUNT_SIZE: usize = 2;
@@ -165,3 +166,8 @@ pub fn next_name(s: &[u8], base: usize, t: Table) -> NameWalk
         ),
     }
 }
+
+// The claims of `specs/Laws.antt` hold. Empty body: the contract makes the checker prove them.
+pub fn laws_hold()
+    ensures { λ _. ⌜ Laws ⌝ }
+{}
