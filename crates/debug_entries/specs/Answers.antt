@@ -1,5 +1,6 @@
 -- What the code's answers mean.
 use Prim.Native.Nat.{ℕ, _+_, _-_}
+use mathlib.Core.List.{List}
 use lib.ListN.{length}
 use Rattle.reading.specs.Answer.{Got, refused, found}
 use Rattle.reading.specs.Places.{Step, stops, item, Next, ends, faulty, entry}
@@ -61,38 +62,38 @@ variableIn v =
       typeName = partIn (v .«type_name»);
     }
 
-abbrev pub variableStep : VariableStep → Step (Variable Place)
-variableStep (stepVariable.Fault e) = stops (debugFaultOf e)
-variableStep (stepVariable.Entry v m) = item (variableIn v) m
+abbrev pub variableStep : List ℕ → VariableStep → Step (Variable Place)
+variableStep s (stepVariable.Fault e) = stops (debugFaultOf s e)
+variableStep s (stepVariable.Entry v m) = item (variableIn v) m
 
-abbrev pub variableFound : VariableFound → Got (Variable Place)
-variableFound (foundVariable.Fault e) = refused (debugFaultOf e)
-variableFound foundVariable.NoEntry = refused noEntry
-variableFound (foundVariable.Entry v) = found (variableIn v)
+abbrev pub variableFound : List ℕ → VariableFound → Got (Variable Place)
+variableFound s (foundVariable.Fault e) = refused (debugFaultOf s e)
+variableFound s foundVariable.NoEntry = refused noEntry
+variableFound s (foundVariable.Entry v) = found (variableIn v)
 
-abbrev pub variableWalk : VariableWalk → Next (Variable Place)
-variableWalk walkVariable.End = ends
-variableWalk (walkVariable.Fault e) = faulty (debugFaultOf e)
-variableWalk (walkVariable.Entry v t) = entry (variableIn v) t
+abbrev pub variableWalk : List ℕ → VariableWalk → Next (Variable Place)
+variableWalk s walkVariable.End = ends
+variableWalk s (walkVariable.Fault e) = faulty (debugFaultOf s e)
+variableWalk s (walkVariable.Entry v t) = entry (variableIn v) t
 
 -- Function names
 
 abbrev pub functionNameIn : FunctionNameEntry → FunctionName Place
 functionNameIn v = record { id = v .«function_id» .0; named = partIn (v .name) }
 
-abbrev pub functionNameStep : FunctionNameStep → Step (FunctionName Place)
-functionNameStep (stepFunctionName.Fault e) = stops (debugFaultOf e)
-functionNameStep (stepFunctionName.Entry v m) = item (functionNameIn v) m
+abbrev pub functionNameStep : List ℕ → FunctionNameStep → Step (FunctionName Place)
+functionNameStep s (stepFunctionName.Fault e) = stops (debugFaultOf s e)
+functionNameStep s (stepFunctionName.Entry v m) = item (functionNameIn v) m
 
-abbrev pub functionNameFound : FunctionNameFound → Got (FunctionName Place)
-functionNameFound (foundFunctionName.Fault e) = refused (debugFaultOf e)
-functionNameFound foundFunctionName.NoEntry = refused noEntry
-functionNameFound (foundFunctionName.Entry v) = found (functionNameIn v)
+abbrev pub functionNameFound : List ℕ → FunctionNameFound → Got (FunctionName Place)
+functionNameFound s (foundFunctionName.Fault e) = refused (debugFaultOf s e)
+functionNameFound s foundFunctionName.NoEntry = refused noEntry
+functionNameFound s (foundFunctionName.Entry v) = found (functionNameIn v)
 
-abbrev pub functionNameWalk : FunctionNameWalk → Next (FunctionName Place)
-functionNameWalk walkFunctionName.End = ends
-functionNameWalk (walkFunctionName.Fault e) = faulty (debugFaultOf e)
-functionNameWalk (walkFunctionName.Entry v t) = entry (functionNameIn v) t
+abbrev pub functionNameWalk : List ℕ → FunctionNameWalk → Next (FunctionName Place)
+functionNameWalk s walkFunctionName.End = ends
+functionNameWalk s (walkFunctionName.Fault e) = faulty (debugFaultOf s e)
+functionNameWalk s (walkFunctionName.Entry v t) = entry (functionNameIn v) t
 
 -- String layouts
 
@@ -104,38 +105,38 @@ stringLayoutIn v =
       maxLength = v .«max_length»;
     }
 
-abbrev pub stringLayoutStep : StringLayoutStep → Step StringLayout
-stringLayoutStep (stepLayout.Fault e) = stops (debugFaultOf e)
-stringLayoutStep (stepLayout.Entry v m) = item (stringLayoutIn v) m
+abbrev pub stringLayoutStep : List ℕ → StringLayoutStep → Step StringLayout
+stringLayoutStep s (stepLayout.Fault e) = stops (debugFaultOf s e)
+stringLayoutStep s (stepLayout.Entry v m) = item (stringLayoutIn v) m
 
-abbrev pub stringLayoutFound : StringLayoutFound → Got StringLayout
-stringLayoutFound (foundLayout.Fault e) = refused (debugFaultOf e)
-stringLayoutFound foundLayout.NoEntry = refused noEntry
-stringLayoutFound (foundLayout.Entry v) = found (stringLayoutIn v)
+abbrev pub stringLayoutFound : List ℕ → StringLayoutFound → Got StringLayout
+stringLayoutFound s (foundLayout.Fault e) = refused (debugFaultOf s e)
+stringLayoutFound s foundLayout.NoEntry = refused noEntry
+stringLayoutFound s (foundLayout.Entry v) = found (stringLayoutIn v)
 
-abbrev pub stringLayoutWalk : StringLayoutWalk → Next StringLayout
-stringLayoutWalk walkLayout.End = ends
-stringLayoutWalk (walkLayout.Fault e) = faulty (debugFaultOf e)
-stringLayoutWalk (walkLayout.Entry v t) = entry (stringLayoutIn v) t
+abbrev pub stringLayoutWalk : List ℕ → StringLayoutWalk → Next StringLayout
+stringLayoutWalk s walkLayout.End = ends
+stringLayoutWalk s (walkLayout.Fault e) = faulty (debugFaultOf s e)
+stringLayoutWalk s (walkLayout.Entry v t) = entry (stringLayoutIn v) t
 
 -- Source files
 
 abbrev pub sourceFileIn : SourceFileEntry → SourceFile Place
 sourceFileIn v = record { located = partIn (v .path); hash = digestBytes (v .«content_hash») }
 
-abbrev pub sourceFileStep : SourceFileStep → Step (SourceFile Place)
-sourceFileStep (stepFile.Fault e) = stops (debugFaultOf e)
-sourceFileStep (stepFile.Entry v m) = item (sourceFileIn v) m
+abbrev pub sourceFileStep : List ℕ → SourceFileStep → Step (SourceFile Place)
+sourceFileStep s (stepFile.Fault e) = stops (debugFaultOf s e)
+sourceFileStep s (stepFile.Entry v m) = item (sourceFileIn v) m
 
-abbrev pub sourceFileFound : SourceFileFound → Got (SourceFile Place)
-sourceFileFound (foundFile.Fault e) = refused (debugFaultOf e)
-sourceFileFound foundFile.NoEntry = refused noEntry
-sourceFileFound (foundFile.Entry v) = found (sourceFileIn v)
+abbrev pub sourceFileFound : List ℕ → SourceFileFound → Got (SourceFile Place)
+sourceFileFound s (foundFile.Fault e) = refused (debugFaultOf s e)
+sourceFileFound s foundFile.NoEntry = refused noEntry
+sourceFileFound s (foundFile.Entry v) = found (sourceFileIn v)
 
-abbrev pub sourceFileWalk : SourceFileWalk → Next (SourceFile Place)
-sourceFileWalk walkFile.End = ends
-sourceFileWalk (walkFile.Fault e) = faulty (debugFaultOf e)
-sourceFileWalk (walkFile.Entry v t) = entry (sourceFileIn v) t
+abbrev pub sourceFileWalk : List ℕ → SourceFileWalk → Next (SourceFile Place)
+sourceFileWalk s walkFile.End = ends
+sourceFileWalk s (walkFile.Fault e) = faulty (debugFaultOf s e)
+sourceFileWalk s (walkFile.Entry v t) = entry (sourceFileIn v) t
 
 -- Enumerations: an answer has the head, which is the name and the number of values, and the table of the values' names
 
@@ -160,16 +161,16 @@ enumerationEntry base keep = do
 abbrev pub enumerationIn : EnumerationEntry → EnumerationWithValues
 enumerationIn v = record { head = record { named = partIn (v .«type_name»); valueCount = v .values .count }; values = v .values }
 
-abbrev pub enumerationStep : EnumerationStep → Step EnumerationWithValues
-enumerationStep (stepEnumeration.Fault e) = stops (debugFaultOf e)
-enumerationStep (stepEnumeration.Entry v m) = item (enumerationIn v) m
+abbrev pub enumerationStep : List ℕ → EnumerationStep → Step EnumerationWithValues
+enumerationStep s (stepEnumeration.Fault e) = stops (debugFaultOf s e)
+enumerationStep s (stepEnumeration.Entry v m) = item (enumerationIn v) m
 
-abbrev pub enumerationFound : EnumerationFound → Got EnumerationWithValues
-enumerationFound (foundEnumeration.Fault e) = refused (debugFaultOf e)
-enumerationFound foundEnumeration.NoEntry = refused noEntry
-enumerationFound (foundEnumeration.Entry v) = found (enumerationIn v)
+abbrev pub enumerationFound : List ℕ → EnumerationFound → Got EnumerationWithValues
+enumerationFound s (foundEnumeration.Fault e) = refused (debugFaultOf s e)
+enumerationFound s foundEnumeration.NoEntry = refused noEntry
+enumerationFound s (foundEnumeration.Entry v) = found (enumerationIn v)
 
-abbrev pub enumerationWalk : EnumerationWalk → Next EnumerationWithValues
-enumerationWalk walkEnumeration.End = ends
-enumerationWalk (walkEnumeration.Fault e) = faulty (debugFaultOf e)
-enumerationWalk (walkEnumeration.Entry v t) = entry (enumerationIn v) t
+abbrev pub enumerationWalk : List ℕ → EnumerationWalk → Next EnumerationWithValues
+enumerationWalk s walkEnumeration.End = ends
+enumerationWalk s (walkEnumeration.Fault e) = faulty (debugFaultOf s e)
+enumerationWalk s (walkEnumeration.Entry v t) = entry (enumerationIn v) t

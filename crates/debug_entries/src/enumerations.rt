@@ -50,7 +50,7 @@ pub enum EnumerationWalk {
 // The entry at `at`.
 pub fn read_enumeration(s: &[u8], base: usize, at: usize) -> EnumerationStep
     requires { ⌜ (at ≤ length (now s)) × InFile base (now s) ⌝ }
-    ensures { λ r. ⌜ enumerationStep r ≡ stepAt (enumerationEntry base (keepIn base (now (s .entry)))) (now (s .entry)) at ⌝ }
+    ensures { λ r. ⌜ enumerationStep (now (s .entry)) r ≡ stepAt (enumerationEntry base (keepIn base (now (s .entry)))) (now (s .entry)) at ⌝ }
 {
     match read_name(s, base, at) {
         TextStep::Fault(e) => EnumerationStep::Fault(e),
@@ -77,7 +77,7 @@ pub fn read_enumeration(s: &[u8], base: usize, at: usize) -> EnumerationStep
 // Skips the `n` entries from `at` on.
 pub fn skip_enumerations(s: &[u8], base: usize, at: usize, n: usize) -> DebugWalk
     requires { ⌜ (at ≤ length (now s)) × InFile base (now s) ⌝ }
-    ensures { λ r. ⌜ wayOf r ≡ wayAt (many n (enumeration (keepIn base (now (s .entry))))) (now (s .entry)) at ⌝ }
+    ensures { λ r. ⌜ wayOf (now (s .entry)) r ≡ wayAt (many n (enumeration (keepIn base (now (s .entry))))) (now (s .entry)) at ⌝ }
 {
     let mut p = at;
     let mut i = 0;
@@ -98,7 +98,7 @@ pub fn skip_enumerations(s: &[u8], base: usize, at: usize, n: usize) -> DebugWal
 // The entry with index `k` among the `n` entries from `at` on.
 pub fn find_enumeration(s: &[u8], base: usize, at: usize, n: usize, k: usize) -> EnumerationFound
     requires { ⌜ InFile base (now s) ⌝ }
-    ensures { λ r. ⌜ enumerationFound r ≡ picked (enumerationEntry base (keepIn base (now (s .entry)))) (now (s .entry)) at n k ⌝ }
+    ensures { λ r. ⌜ enumerationFound (now (s .entry)) r ≡ picked (enumerationEntry base (keepIn base (now (s .entry)))) (now (s .entry)) at n k ⌝ }
 {
     if n <= k {
         return EnumerationFound::NoEntry;
@@ -125,7 +125,7 @@ pub fn find_enumeration_value(
     j: usize,
 ) -> NameFound
     requires { ⌜ InFile base (now s) ⌝ }
-    ensures { λ r. ⌜ nameFound r ≡ pickedValue (keepIn base (now (s .entry))) (now (s .entry)) at n k j ⌝ }
+    ensures { λ r. ⌜ nameFound (now (s .entry)) r ≡ pickedValue (keepIn base (now (s .entry))) (now (s .entry)) at n k j ⌝ }
 {
     match find_enumeration(s, base, at, n, k) {
         EnumerationFound::Fault(e) => NameFound::Fault(e),
@@ -140,7 +140,7 @@ pub fn find_enumeration_value(
 // The next entry of a walk.
 pub fn next_enumeration_in(s: &[u8], base: usize, t: Table) -> EnumerationWalk
     requires { ⌜ InFile base (now s) ⌝ }
-    ensures { λ r. ⌜ enumerationWalk r ≡ stepOf (enumerationEntry base (keepIn base (now (s .entry)))) (now (s .entry)) t ⌝ }
+    ensures { λ r. ⌜ enumerationWalk (now (s .entry)) r ≡ stepOf (enumerationEntry base (keepIn base (now (s .entry)))) (now (s .entry)) t ⌝ }
 {
     let at = t.at;
     let count = t.count;

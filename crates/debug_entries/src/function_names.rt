@@ -48,7 +48,7 @@ pub enum FunctionNameWalk {
 // The entry at `at`.
 pub fn read_function_name(s: &[u8], base: usize, at: usize) -> FunctionNameStep
     requires { ⌜ (at ≤ length (now s)) × InFile base (now s) ⌝ }
-    ensures { λ r. ⌜ functionNameStep r ≡ stepAt (functionName (keepIn base (now (s .entry)))) (now (s .entry)) at ⌝ }
+    ensures { λ r. ⌜ functionNameStep (now (s .entry)) r ≡ stepAt (functionName (keepIn base (now (s .entry)))) (now (s .entry)) at ⌝ }
 {
     if s.len() - at < FUNCTION_ID_SIZE {
         return FunctionNameStep::Fault(DebugFault::Short);
@@ -66,7 +66,7 @@ pub fn read_function_name(s: &[u8], base: usize, at: usize) -> FunctionNameStep
 // Skips the `n` entries from `at` on.
 pub fn skip_function_names(s: &[u8], base: usize, at: usize, n: usize) -> DebugWalk
     requires { ⌜ (at ≤ length (now s)) × InFile base (now s) ⌝ }
-    ensures { λ r. ⌜ wayOf r ≡ wayAt (many n (functionName (keepIn base (now (s .entry))))) (now (s .entry)) at ⌝ }
+    ensures { λ r. ⌜ wayOf (now (s .entry)) r ≡ wayAt (many n (functionName (keepIn base (now (s .entry))))) (now (s .entry)) at ⌝ }
 {
     let mut p = at;
     let mut i = 0;
@@ -87,7 +87,7 @@ pub fn skip_function_names(s: &[u8], base: usize, at: usize, n: usize) -> DebugW
 // The entry with index `k` among the `n` entries from `at` on.
 pub fn find_function_name(s: &[u8], base: usize, at: usize, n: usize, k: usize) -> FunctionNameFound
     requires { ⌜ InFile base (now s) ⌝ }
-    ensures { λ r. ⌜ functionNameFound r ≡ picked (functionName (keepIn base (now (s .entry)))) (now (s .entry)) at n k ⌝ }
+    ensures { λ r. ⌜ functionNameFound (now (s .entry)) r ≡ picked (functionName (keepIn base (now (s .entry)))) (now (s .entry)) at n k ⌝ }
 {
     if n <= k {
         return FunctionNameFound::NoEntry;
@@ -107,7 +107,7 @@ pub fn find_function_name(s: &[u8], base: usize, at: usize, n: usize, k: usize) 
 // The next entry of a walk.
 pub fn next_function_name_in(s: &[u8], base: usize, t: Table) -> FunctionNameWalk
     requires { ⌜ InFile base (now s) ⌝ }
-    ensures { λ r. ⌜ functionNameWalk r ≡ stepOf (functionName (keepIn base (now (s .entry)))) (now (s .entry)) t ⌝ }
+    ensures { λ r. ⌜ functionNameWalk (now (s .entry)) r ≡ stepOf (functionName (keepIn base (now (s .entry)))) (now (s .entry)) t ⌝ }
 {
     let at = t.at;
     let count = t.count;

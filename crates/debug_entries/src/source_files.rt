@@ -47,7 +47,7 @@ pub enum SourceFileWalk {
 // The entry at `at`.
 pub fn read_source_file(s: &[u8], base: usize, at: usize) -> SourceFileStep
     requires { ⌜ (at ≤ length (now s)) × InFile base (now s) ⌝ }
-    ensures { λ r. ⌜ sourceFileStep r ≡ stepAt (sourceFile (keepIn base (now (s .entry)))) (now (s .entry)) at ⌝ }
+    ensures { λ r. ⌜ sourceFileStep (now (s .entry)) r ≡ stepAt (sourceFile (keepIn base (now (s .entry)))) (now (s .entry)) at ⌝ }
 {
     match read_path(s, base, at) {
         TextStep::Fault(e) => SourceFileStep::Fault(e),
@@ -67,7 +67,7 @@ pub fn read_source_file(s: &[u8], base: usize, at: usize) -> SourceFileStep
 // Skips the `n` entries from `at` on.
 pub fn skip_source_files(s: &[u8], base: usize, at: usize, n: usize) -> DebugWalk
     requires { ⌜ (at ≤ length (now s)) × InFile base (now s) ⌝ }
-    ensures { λ r. ⌜ wayOf r ≡ wayAt (many n (sourceFile (keepIn base (now (s .entry))))) (now (s .entry)) at ⌝ }
+    ensures { λ r. ⌜ wayOf (now (s .entry)) r ≡ wayAt (many n (sourceFile (keepIn base (now (s .entry))))) (now (s .entry)) at ⌝ }
 {
     let mut p = at;
     let mut i = 0;
@@ -88,7 +88,7 @@ pub fn skip_source_files(s: &[u8], base: usize, at: usize, n: usize) -> DebugWal
 // The entry with index `k` among the `n` entries from `at` on.
 pub fn find_source_file(s: &[u8], base: usize, at: usize, n: usize, k: usize) -> SourceFileFound
     requires { ⌜ InFile base (now s) ⌝ }
-    ensures { λ r. ⌜ sourceFileFound r ≡ picked (sourceFile (keepIn base (now (s .entry)))) (now (s .entry)) at n k ⌝ }
+    ensures { λ r. ⌜ sourceFileFound (now (s .entry)) r ≡ picked (sourceFile (keepIn base (now (s .entry)))) (now (s .entry)) at n k ⌝ }
 {
     if n <= k {
         return SourceFileFound::NoEntry;
@@ -108,7 +108,7 @@ pub fn find_source_file(s: &[u8], base: usize, at: usize, n: usize, k: usize) ->
 // The next entry of a walk.
 pub fn next_source_file_in(s: &[u8], base: usize, t: Table) -> SourceFileWalk
     requires { ⌜ InFile base (now s) ⌝ }
-    ensures { λ r. ⌜ sourceFileWalk r ≡ stepOf (sourceFile (keepIn base (now (s .entry)))) (now (s .entry)) t ⌝ }
+    ensures { λ r. ⌜ sourceFileWalk (now (s .entry)) r ≡ stepOf (sourceFile (keepIn base (now (s .entry)))) (now (s .entry)) t ⌝ }
 {
     let at = t.at;
     let count = t.count;

@@ -46,7 +46,7 @@ pub enum StringLayoutWalk {
 // The entry at `at`.
 pub fn read_string_layout(s: &[u8], at: usize) -> StringLayoutStep
     requires { ⌜ at ≤ length (now s) ⌝ }
-    ensures { λ r. ⌜ stringLayoutStep r ≡ stepAt stringLayout (now (s .entry)) at ⌝ }
+    ensures { λ r. ⌜ stringLayoutStep (now (s .entry)) r ≡ stepAt stringLayout (now (s .entry)) at ⌝ }
 {
     if s.len() - at < STRING_LAYOUT_ENTRY_SIZE {
         return StringLayoutStep::Fault(DebugFault::Short);
@@ -64,7 +64,7 @@ pub fn read_string_layout(s: &[u8], at: usize) -> StringLayoutStep
 // Skips the `n` entries from `at` on, which all have one width.
 pub fn skip_string_layouts(s: &[u8], at: usize, n: usize) -> DebugWalk
     requires { ⌜ at ≤ length (now s) ⌝ }
-    ensures { λ r. ⌜ wayOf r ≡ wayAt (many n stringLayout) (now (s .entry)) at ⌝ }
+    ensures { λ r. ⌜ wayOf (now (s .entry)) r ≡ wayAt (many n stringLayout) (now (s .entry)) at ⌝ }
 {
     if (s.len() - at) / STRING_LAYOUT_ENTRY_SIZE < n {
         return DebugWalk::Fault(DebugFault::Short);
@@ -74,7 +74,7 @@ pub fn skip_string_layouts(s: &[u8], at: usize, n: usize) -> DebugWalk
 
 // The entry with index `k` among the `n` entries from `at` on.
 pub fn find_string_layout(s: &[u8], at: usize, n: usize, k: usize) -> StringLayoutFound
-    ensures { λ r. ⌜ stringLayoutFound r ≡ picked stringLayout (now (s .entry)) at n k ⌝ }
+    ensures { λ r. ⌜ stringLayoutFound (now (s .entry)) r ≡ picked stringLayout (now (s .entry)) at n k ⌝ }
 {
     if n <= k {
         return StringLayoutFound::NoEntry;
@@ -93,7 +93,7 @@ pub fn find_string_layout(s: &[u8], at: usize, n: usize, k: usize) -> StringLayo
 
 // The next entry of a walk.
 pub fn next_string_layout_in(s: &[u8], t: Table) -> StringLayoutWalk
-    ensures { λ r. ⌜ stringLayoutWalk r ≡ stepOf stringLayout (now (s .entry)) t ⌝ }
+    ensures { λ r. ⌜ stringLayoutWalk (now (s .entry)) r ≡ stepOf stringLayout (now (s .entry)) t ⌝ }
 {
     let at = t.at;
     let count = t.count;

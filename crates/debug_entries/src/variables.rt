@@ -54,7 +54,7 @@ pub enum VariableWalk {
 // The entry at `at`.
 pub fn read_variable(s: &[u8], base: usize, at: usize) -> VariableStep
     requires { ⌜ (at ≤ length (now s)) × InFile base (now s) ⌝ }
-    ensures { λ r. ⌜ variableStep r ≡ stepAt (variable (keepIn base (now (s .entry)))) (now (s .entry)) at ⌝ }
+    ensures { λ r. ⌜ variableStep (now (s .entry)) r ≡ stepAt (variable (keepIn base (now (s .entry)))) (now (s .entry)) at ⌝ }
 {
     if s.len() - at < VARIABLE_NUMBERS_SIZE {
         return VariableStep::Fault(DebugFault::Short);
@@ -85,7 +85,7 @@ pub fn read_variable(s: &[u8], base: usize, at: usize) -> VariableStep
 // Skips the `n` entries from `at` on.
 pub fn skip_variables(s: &[u8], base: usize, at: usize, n: usize) -> DebugWalk
     requires { ⌜ (at ≤ length (now s)) × InFile base (now s) ⌝ }
-    ensures { λ r. ⌜ wayOf r ≡ wayAt (many n (variable (keepIn base (now (s .entry))))) (now (s .entry)) at ⌝ }
+    ensures { λ r. ⌜ wayOf (now (s .entry)) r ≡ wayAt (many n (variable (keepIn base (now (s .entry))))) (now (s .entry)) at ⌝ }
 {
     let mut p = at;
     let mut i = 0;
@@ -106,7 +106,7 @@ pub fn skip_variables(s: &[u8], base: usize, at: usize, n: usize) -> DebugWalk
 // The entry with index `k` among the `n` entries from `at` on.
 pub fn find_variable(s: &[u8], base: usize, at: usize, n: usize, k: usize) -> VariableFound
     requires { ⌜ InFile base (now s) ⌝ }
-    ensures { λ r. ⌜ variableFound r ≡ picked (variable (keepIn base (now (s .entry)))) (now (s .entry)) at n k ⌝ }
+    ensures { λ r. ⌜ variableFound (now (s .entry)) r ≡ picked (variable (keepIn base (now (s .entry)))) (now (s .entry)) at n k ⌝ }
 {
     if n <= k {
         return VariableFound::NoEntry;
@@ -126,7 +126,7 @@ pub fn find_variable(s: &[u8], base: usize, at: usize, n: usize, k: usize) -> Va
 // The next entry of a walk.
 pub fn next_variable_in(s: &[u8], base: usize, t: Table) -> VariableWalk
     requires { ⌜ InFile base (now s) ⌝ }
-    ensures { λ r. ⌜ variableWalk r ≡ stepOf (variable (keepIn base (now (s .entry)))) (now (s .entry)) t ⌝ }
+    ensures { λ r. ⌜ variableWalk (now (s .entry)) r ≡ stepOf (variable (keepIn base (now (s .entry)))) (now (s .entry)) t ⌝ }
 {
     let at = t.at;
     let count = t.count;

@@ -21,24 +21,24 @@ returns-2 : tie.Need-returns-2
 returns-2 c = picked-past _ _ _ _ _ _ (enum-needs _ _) (omega arith) (c .before .if1 .left) (c .if2 .taken)
 
 read-enumeration-requires : tie.Need-read-enumeration-requires
-read-enumeration-requires c κs = (goes-told _ _ _ (ap wayOf (c .before .p .given .1)) (goes-at (stays-many _ (c .before .before .before .before .before .before .before .args .k) (stays-enumeration _ _)) _ (c .before .before .before .skip-enumerations .ensures)) .0, omega arith)
+read-enumeration-requires c κs = (goes-told _ _ _ (ap (wayOf _) (c .before .p .given .1)) (goes-at (stays-many _ (c .before .before .before .before .before .before .before .args .k) (stays-enumeration _ _)) _ (c .before .before .before .skip-enumerations .ensures)) .0, omega arith)
 
 returns-3 : tie.Need-returns-3
 returns-3 c =
     let a = c .before .before .before .before .before .before .before .args in
-    picked-stop _ _ _ _ _ _ (omega arith) (enum-goes (a .base) (now (a .s)) (a .k) (a .at) (stopsBy _) (goes-told _ _ _ (ap wayOf (c .before .e .given .1)) (goes-at (stays-many _ (c .before .before .before .before .before .before .before .args .k) (stays-enumeration _ _)) _ (c .before .before .before .skip-enumerations .ensures))))
+    picked-stop _ _ _ _ _ _ (omega arith) (enum-goes (a .base) (now (a .s)) (a .k) (a .at) (stopsBy _) (goes-told _ _ _ (ap (wayOf _) (c .before .e .given .1)) (goes-at (stays-many _ (c .before .before .before .before .before .before .before .args .k) (stays-enumeration _ _)) _ (c .before .before .before .skip-enumerations .ensures))))
 
 returns-4 : tie.Need-returns-4
 returns-4 c =
     let a = c .before .before .before .before .before .before .before .before .before .before .before .args in
-    let g = goes-told _ _ _ (ap wayOf (c .before .before .before .before .before .p .given .1)) (goes-at (stays-many _ (c .before .before .before .before .before .before .before .before .before .before .before .args .k) (stays-enumeration _ _)) _ (c .before .before .before .before .before .before .before .skip-enumerations .ensures)) in
-    picked-read _ _ _ _ _ _ (omega arith) (enum-goes (a .base) (now (a .s)) (a .k) (a .at) (onTo _) g) (ap enumerationStep (c .before .e2 .given .1)) (reads-at (stays-entry _ _ _) _ (c .before .before .before .read-enumeration .ensures))
+    let g = goes-told _ _ _ (ap (wayOf _) (c .before .before .before .before .before .p .given .1)) (goes-at (stays-many _ (c .before .before .before .before .before .before .before .before .before .before .before .args .k) (stays-enumeration _ _)) _ (c .before .before .before .before .before .before .before .skip-enumerations .ensures)) in
+    picked-read _ _ _ _ _ _ (omega arith) (enum-goes (a .base) (now (a .s)) (a .k) (a .at) (onTo _) g) (ap (enumerationStep _) (c .before .e2 .given .1)) (reads-at (stays-entry _ _ _) _ (c .before .before .before .read-enumeration .ensures))
 
 returns-5 : tie.Need-returns-5
 returns-5 c =
     let a = c .before .before .before .before .before .before .before .before .before .before .before .args in
-    let g = goes-told _ _ _ (ap wayOf (c .before .before .before .before .before .p .given .1)) (goes-at (stays-many _ (c .before .before .before .before .before .before .before .before .before .before .before .args .k) (stays-enumeration _ _)) _ (c .before .before .before .before .before .before .before .skip-enumerations .ensures)) in
-    picked-read _ _ _ _ _ _ (omega arith) (enum-goes (a .base) (now (a .s)) (a .k) (a .at) (onTo _) g) (ap enumerationStep (c .before .x .given .1)) (reads-at (stays-entry _ _ _) _ (c .before .before .before .read-enumeration .ensures))
+    let g = goes-told _ _ _ (ap (wayOf _) (c .before .before .before .before .before .p .given .1)) (goes-at (stays-many _ (c .before .before .before .before .before .before .before .before .before .before .before .args .k) (stays-enumeration _ _)) _ (c .before .before .before .before .before .before .before .skip-enumerations .ensures)) in
+    picked-read _ _ _ _ _ _ (omega arith) (enum-goes (a .base) (now (a .s)) (a .k) (a .at) (onTo _) g) (ap (enumerationStep _) (c .before .x .given .1)) (reads-at (stays-entry _ _ _) _ (c .before .before .before .read-enumeration .ensures))
 
 pub find-enumeration-spec : {M : Type 1} → statement M
 find-enumeration-spec =

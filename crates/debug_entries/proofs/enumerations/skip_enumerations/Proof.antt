@@ -26,12 +26,12 @@ loop-holds c = passed-none _ _ _ _ (omega arith)
 returns : tie.Need-returns Inv-loop μ-loop
 returns c =
     let a = c .before .before .before .before .before .before .before .args in
-    way-at _ _ _ _ (made-stop (entryOf (a .base)) (enumeration (keepIn (a .base) (now (a .s)))) (now (a .s)) _ _ _ _ _ (c .before .before .before .before .loop-test .taken) (c .before .before .before .before .before .loop .inv) (ap enumerationStep (c .before .e .given .1)) (reads-at (stays-entry _ _ _) _ (c .before .before .before .read-enumeration .ensures)))
+    way-at _ _ _ _ (made-stop (entryOf (a .base)) (enumeration (keepIn (a .base) (now (a .s)))) (now (a .s)) _ _ _ _ _ (c .before .before .before .before .loop-test .taken) (c .before .before .before .before .before .loop .inv) (ap (enumerationStep _) (c .before .e .given .1)) (reads-at (stays-entry _ _ _) _ (c .before .before .before .read-enumeration .ensures)))
 
 loop-again : tie.Need-loop-again Inv-loop μ-loop
 loop-again c =
     let a = c .before .before .before .before .before .before .before .args in
-    made-more (entryOf (a .base)) (enumeration (keepIn (a .base) (now (a .s)))) (now (a .s)) _ _ _ _ _ _ (c .before .before .before .before .loop-test .taken) (c .before .before .before .before .before .loop .inv) (ap enumerationStep (c .before .m .given .1)) (reads-at (stays-entry _ _ _) _ (c .before .before .before .read-enumeration .ensures))
+    made-more (entryOf (a .base)) (enumeration (keepIn (a .base) (now (a .s)))) (now (a .s)) _ _ _ _ _ _ (c .before .before .before .before .loop-test .taken) (c .before .before .before .before .before .loop .inv) (ap (enumerationStep _) (c .before .m .given .1)) (reads-at (stays-entry _ _ _) _ (c .before .before .before .read-enumeration .ensures))
 
 returns-2 : tie.Need-returns-2 Inv-loop μ-loop
 returns-2 c = way-at _ _ _ _ (passed-all _ _ _ _ _ _ (c .loop-test .left) (c .before .loop .inv))

@@ -15,10 +15,10 @@ returns : tie.Need-returns
 returns c = let a = c .before .before .args in step-at _ _ _ _ (needs-at (func-needs _) (now (a .s)) (a .at) (c .if1 .taken))
 
 returns-2 : tie.Need-returns-2
-returns-2 c = step-at _ _ _ _ (func-read _ _ _ _ (omega arith) (c .before .before .before .before .u16-at .ensures) (ap textStep (c .before .e .given .1)) (reads-at (stays-name _ _) _ (c .before .before .before .read-name .ensures)))
+returns-2 c = step-at _ _ _ _ (func-read _ _ _ _ (omega arith) (c .before .before .before .before .u16-at .ensures) (ap (textStep _) (c .before .e .given .1)) (reads-at (stays-name _ _) _ (c .before .before .before .read-name .ensures)))
 
 returns-3 : tie.Need-returns-3
-returns-3 c = step-at _ _ _ _ (func-read _ _ _ _ (omega arith) (c .before .before .before .before .u16-at .ensures) (ap textStep (c .before .name .given .1)) (reads-at (stays-name _ _) _ (c .before .before .before .read-name .ensures)))
+returns-3 c = step-at _ _ _ _ (func-read _ _ _ _ (omega arith) (c .before .before .before .before .u16-at .ensures) (ap (textStep _) (c .before .name .given .1)) (reads-at (stays-name _ _) _ (c .before .before .before .read-name .ensures)))
 
 pub read-function-name-spec : {M : Type 1} → statement M
 read-function-name-spec =

@@ -12,18 +12,18 @@ use Rattle.debug_entries.proofs.source_files.read_source_file.Tie as ti
 
 -- the path ends in the section
 sub-if1 : tie.Need-sub-if1
-sub-if1 c = reads-told _ _ _ (ap textStep (c .before .path .given .1)) (reads-at (stays-path _ _) _ (c .before .before .before .read-path .ensures)) .0
+sub-if1 c = reads-told _ _ _ (ap (textStep _) (c .before .path .given .1)) (reads-at (stays-path _ _) _ (c .before .before .before .read-path .ensures)) .0
 
 returns : tie.Need-returns
-returns c = step-at _ _ _ _ (file-short _ _ _ _ _ (ap textStep (c .before .before .path .given .1)) (reads-at (stays-path _ _) _ (c .before .before .before .before .read-path .ensures)) (c .if1 .taken))
+returns c = step-at _ _ _ _ (file-short _ _ _ _ _ (ap (textStep _) (c .before .before .path .given .1)) (reads-at (stays-path _ _) _ (c .before .before .before .before .read-path .ensures)) (c .if1 .taken))
 
 returns-2 : tie.Need-returns-2
-returns-2 c = step-at _ _ _ _ (file-stop _ _ _ _ (ap textStep (c .before .e .given .1)) (reads-at (stays-path _ _) _ (c .before .before .before .read-path .ensures)))
+returns-2 c = step-at _ _ _ _ (file-stop _ _ _ _ (ap (textStep _) (c .before .e .given .1)) (reads-at (stays-path _ _) _ (c .before .before .before .read-path .ensures)))
 
 returns-3 : tie.Need-returns-3
 returns-3 c =
-    let l = reads-told _ _ _ (ap textStep (c .before .before .before .path .given .1)) (reads-at (stays-path _ _) _ (c .before .before .before .before .before .read-path .ensures)) .0 in
-    step-at _ _ _ _ (omega arith, file-read _ _ _ _ _ (ap textStep (c .before .before .before .path .given .1)) (reads-at (stays-path _ _) _ (c .before .before .before .before .before .read-path .ensures)) _ (omega arith) (c .digest-at .ensures))
+    let l = reads-told _ _ _ (ap (textStep _) (c .before .before .before .path .given .1)) (reads-at (stays-path _ _) _ (c .before .before .before .before .before .read-path .ensures)) .0 in
+    step-at _ _ _ _ (omega arith, file-read _ _ _ _ _ (ap (textStep _) (c .before .before .before .path .given .1)) (reads-at (stays-path _ _) _ (c .before .before .before .before .before .read-path .ensures)) _ (omega arith) (c .digest-at .ensures))
 
 pub read-source-file-spec : {M : Type 1} → statement M
 read-source-file-spec =

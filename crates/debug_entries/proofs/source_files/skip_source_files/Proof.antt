@@ -22,10 +22,10 @@ loop-holds : tie.Need-loop-holds Inv-loop μ-loop
 loop-holds c = passed-none _ _ _ _ (omega arith)
 
 returns : tie.Need-returns Inv-loop μ-loop
-returns c = way-at _ _ _ _ (walk-stop _ _ _ _ _ _ _ (c .before .before .before .before .loop-test .taken) (c .before .before .before .before .before .loop .inv) (ap sourceFileStep (c .before .e .given .1)) (reads-at (stays-file _ _) _ (c .before .before .before .read-source-file .ensures)))
+returns c = way-at _ _ _ _ (walk-stop _ _ _ _ _ _ _ (c .before .before .before .before .loop-test .taken) (c .before .before .before .before .before .loop .inv) (ap (sourceFileStep _) (c .before .e .given .1)) (reads-at (stays-file _ _) _ (c .before .before .before .read-source-file .ensures)))
 
 loop-again : tie.Need-loop-again Inv-loop μ-loop
-loop-again c = walk-more _ _ _ _ _ _ _ _ (c .before .before .before .before .loop-test .taken) (c .before .before .before .before .before .loop .inv) (ap sourceFileStep (c .before .m .given .1)) (reads-at (stays-file _ _) _ (c .before .before .before .read-source-file .ensures))
+loop-again c = walk-more _ _ _ _ _ _ _ _ (c .before .before .before .before .loop-test .taken) (c .before .before .before .before .before .loop .inv) (ap (sourceFileStep _) (c .before .m .given .1)) (reads-at (stays-file _ _) _ (c .before .before .before .read-source-file .ensures))
 
 returns-2 : tie.Need-returns-2 Inv-loop μ-loop
 returns-2 c = way-at _ _ _ _ (passed-all _ _ _ _ _ _ (c .loop-test .left) (c .before .loop .inv))

@@ -20,16 +20,16 @@ returns-2 : tie.Need-returns-2
 returns-2 c = picked-past _ _ _ _ _ _ (layout-fixed .short) (omega arith) (c .before .if1 .left) (c .if2 .taken)
 
 read-string-layout-requires : tie.Need-read-string-layout-requires
-read-string-layout-requires c κs = goes-told _ _ _ (ap wayOf (c .before .p .given .1)) (goes-at (stays-many _ (c .before .before .before .before .before .before .before .args .k) (stays-local _ local-stringLayout)) _ (c .before .before .before .skip-string-layouts .ensures)) .0
+read-string-layout-requires c κs = goes-told _ _ _ (ap (wayOf _) (c .before .p .given .1)) (goes-at (stays-many _ (c .before .before .before .before .before .before .before .args .k) (stays-local _ local-stringLayout)) _ (c .before .before .before .skip-string-layouts .ensures)) .0
 
 returns-3 : tie.Need-returns-3
-returns-3 c = picked-stop _ _ _ _ _ _ (omega arith) (goes-told _ _ _ (ap wayOf (c .before .e .given .1)) (goes-at (stays-many _ (c .before .before .before .before .before .before .before .args .k) (stays-local _ local-stringLayout)) _ (c .before .before .before .skip-string-layouts .ensures)))
+returns-3 c = picked-stop _ _ _ _ _ _ (omega arith) (goes-told _ _ _ (ap (wayOf _) (c .before .e .given .1)) (goes-at (stays-many _ (c .before .before .before .before .before .before .before .args .k) (stays-local _ local-stringLayout)) _ (c .before .before .before .skip-string-layouts .ensures)))
 
 returns-4 : tie.Need-returns-4
-returns-4 c = picked-read _ _ _ _ _ _ (omega arith) (goes-told _ _ _ (ap wayOf (c .before .before .before .before .before .p .given .1)) (goes-at (stays-many _ (c .before .before .before .before .before .before .before .before .before .before .before .args .k) (stays-local _ local-stringLayout)) _ (c .before .before .before .before .before .before .before .skip-string-layouts .ensures))) (ap stringLayoutStep (c .before .e2 .given .1)) (reads-at (stays-local _ local-stringLayout) _ (c .before .before .before .read-string-layout .ensures))
+returns-4 c = picked-read _ _ _ _ _ _ (omega arith) (goes-told _ _ _ (ap (wayOf _) (c .before .before .before .before .before .p .given .1)) (goes-at (stays-many _ (c .before .before .before .before .before .before .before .before .before .before .before .args .k) (stays-local _ local-stringLayout)) _ (c .before .before .before .before .before .before .before .skip-string-layouts .ensures))) (ap (stringLayoutStep _) (c .before .e2 .given .1)) (reads-at (stays-local _ local-stringLayout) _ (c .before .before .before .read-string-layout .ensures))
 
 returns-5 : tie.Need-returns-5
-returns-5 c = picked-read _ _ _ _ _ _ (omega arith) (goes-told _ _ _ (ap wayOf (c .before .before .before .before .before .p .given .1)) (goes-at (stays-many _ (c .before .before .before .before .before .before .before .before .before .before .before .args .k) (stays-local _ local-stringLayout)) _ (c .before .before .before .before .before .before .before .skip-string-layouts .ensures))) (ap stringLayoutStep (c .before .x .given .1)) (reads-at (stays-local _ local-stringLayout) _ (c .before .before .before .read-string-layout .ensures))
+returns-5 c = picked-read _ _ _ _ _ _ (omega arith) (goes-told _ _ _ (ap (wayOf _) (c .before .before .before .before .before .p .given .1)) (goes-at (stays-many _ (c .before .before .before .before .before .before .before .before .before .before .before .args .k) (stays-local _ local-stringLayout)) _ (c .before .before .before .before .before .before .before .skip-string-layouts .ensures))) (ap (stringLayoutStep _) (c .before .x .given .1)) (reads-at (stays-local _ local-stringLayout) _ (c .before .before .before .read-string-layout .ensures))
 
 pub find-string-layout-spec : {M : Type 1} → statement M
 find-string-layout-spec =

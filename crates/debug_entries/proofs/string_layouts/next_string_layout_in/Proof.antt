@@ -18,10 +18,10 @@ returns-2 : tie.Need-returns-2
 returns-2 c = step-past _ _ _ _ (layout-fixed .short) (omega arith) (c .before .if1 .left) (c .if2 .taken)
 
 returns-3 : tie.Need-returns-3
-returns-3 c = step-read _ _ _ (c .before .before .before .before .before .if1 .left) (ap stringLayoutStep (c .before .e .given .1)) (reads-at (stays-local _ local-stringLayout) _ (c .before .before .before .read-string-layout .ensures))
+returns-3 c = step-read _ _ _ (c .before .before .before .before .before .if1 .left) (ap (stringLayoutStep _) (c .before .e .given .1)) (reads-at (stays-local _ local-stringLayout) _ (c .before .before .before .read-string-layout .ensures))
 
 returns-4 : tie.Need-returns-4
-returns-4 c = step-read _ _ _ (c .before .before .before .before .before .if1 .left) (ap stringLayoutStep (c .before .x .given .1)) (reads-at (stays-local _ local-stringLayout) _ (c .before .before .before .read-string-layout .ensures))
+returns-4 c = step-read _ _ _ (c .before .before .before .before .before .if1 .left) (ap (stringLayoutStep _) (c .before .x .given .1)) (reads-at (stays-local _ local-stringLayout) _ (c .before .before .before .read-string-layout .ensures))
 
 pub next-string-layout-in-spec : {M : Type 1} → statement M
 next-string-layout-in-spec =

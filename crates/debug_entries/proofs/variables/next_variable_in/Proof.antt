@@ -16,10 +16,10 @@ returns-2 : tie.Need-returns-2
 returns-2 c = step-past _ _ _ _ (var-needs _) (omega arith) (c .before .if1 .left) (c .if2 .taken)
 
 returns-3 : tie.Need-returns-3
-returns-3 c = step-read _ _ _ (c .before .before .before .before .before .if1 .left) (ap variableStep (c .before .e .given .1)) (reads-at (stays-variable _ _) _ (c .before .before .before .read-variable .ensures))
+returns-3 c = step-read _ _ _ (c .before .before .before .before .before .if1 .left) (ap (variableStep _) (c .before .e .given .1)) (reads-at (stays-variable _ _) _ (c .before .before .before .read-variable .ensures))
 
 returns-4 : tie.Need-returns-4
-returns-4 c = step-read _ _ _ (c .before .before .before .before .before .if1 .left) (ap variableStep (c .before .x .given .1)) (reads-at (stays-variable _ _) _ (c .before .before .before .read-variable .ensures))
+returns-4 c = step-read _ _ _ (c .before .before .before .before .before .if1 .left) (ap (variableStep _) (c .before .x .given .1)) (reads-at (stays-variable _ _) _ (c .before .before .before .read-variable .ensures))
 
 pub next-variable-in-spec : {M : Type 1} → statement M
 next-variable-in-spec =
