@@ -1,4 +1,6 @@
 -- What the code's answers mean.
+use Prim.Native.Nat.{ℕ}
+use mathlib.Core.List.{List}
 use mathlib.Core.Option.{Option, none, some}
 use Rattle.reading.specs.Answer.{Got, refused, found}
 use Rattle.reading.specs.Places.{Step, stops, item}
@@ -29,13 +31,13 @@ kindIn kind.Enumerations = enumerations
 kindIn kind.Unknown = unknown
 
 -- the payload of a row: where its entries stand, and where it ends
-abbrev pub payloadStep : PayloadStep → Step Table
-payloadStep (step.Fault e) = stops (debugFaultOf e)
-payloadStep (step.Table t m) = item t m
+abbrev pub payloadStep : List ℕ → PayloadStep → Step Table
+payloadStep s (step.Fault e) = stops (debugFaultOf s e)
+payloadStep s (step.Table t m) = item t m
 
-abbrev pub debugTablesFrom : DebugTablesAnswer → Got DebugTables
-debugTablesFrom (answer.Fault e) = refused (debugFaultOf e)
-debugTablesFrom (answer.Tables t) = found t
+abbrev pub debugTablesFrom : List ℕ → DebugTablesAnswer → Got DebugTables
+debugTablesFrom s (answer.Fault e) = refused (debugFaultOf s e)
+debugTablesFrom s (answer.Tables t) = found t
 
 abbrev pub debugCountsIn : DebugCounts → record-of.DebugCounts
 debugCountsIn c =
@@ -48,9 +50,9 @@ debugCountsIn c =
       enumerations = c .enumerations;
     }
 
-abbrev pub debugCountsFrom : DebugCountsAnswer → Got record-of.DebugCounts
-debugCountsFrom (counts.Fault e) = refused (debugFaultOf e)
-debugCountsFrom (counts.Counts c) = found (debugCountsIn c)
+abbrev pub debugCountsFrom : List ℕ → DebugCountsAnswer → Got record-of.DebugCounts
+debugCountsFrom s (counts.Fault e) = refused (debugFaultOf s e)
+debugCountsFrom s (counts.Counts c) = found (debugCountsIn c)
 
 -- what a record holds of them: none where the container loads with no debug
 abbrev pub maybeDebug : MaybeDebug → Option record-of.DebugCounts

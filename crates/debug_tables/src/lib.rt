@@ -127,7 +127,7 @@ fn is_listed(kind: TableKind) -> bool
 // Skips the `n` lines from `at` on, which all have one width.
 fn skip_lines(s: &[u8], at: usize, n: usize) -> DebugWalk
     requires { ⌜ at ≤ length (now s) ⌝ }
-    ensures { λ r. ⌜ wayOf r ≡ wayAt (many n line) (now (s .entry)) at ⌝ }
+    ensures { λ r. ⌜ wayOf (now (s .entry)) r ≡ wayAt (many n line) (now (s .entry)) at ⌝ }
 {
     if lines_fit(s, at, n) {
         DebugWalk::At(at + LINE_MAP_ENTRY_SIZE * n)
@@ -139,7 +139,7 @@ fn skip_lines(s: &[u8], at: usize, n: usize) -> DebugWalk
 // Skips the `n` entries from `at` on of a table of that kind.
 fn skip_entries(s: &[u8], at: usize, kind: TableKind, n: usize) -> DebugWalk
     requires { ⌜ at ≤ length (now s) ⌝ }
-    ensures { λ r. ⌜ wayOf r ≡ wayAt (entriesOf (kindIn kind) n) (now (s .entry)) at ⌝ }
+    ensures { λ r. ⌜ wayOf (now (s .entry)) r ≡ wayAt (entriesOf (kindIn kind) n) (now (s .entry)) at ⌝ }
 {
     match kind {
         TableKind::Lines => skip_lines(s, at, n),
@@ -155,7 +155,7 @@ fn skip_entries(s: &[u8], at: usize, kind: TableKind, n: usize) -> DebugWalk
 // The payload at `at`: a listed table is read by its own count, any other is skipped by its row's size.
 fn read_payload(s: &[u8], at: usize, kind: TableKind, size: usize) -> PayloadStep
     requires { ⌜ at ≤ length (now s) ⌝ }
-    ensures { λ r. ⌜ payloadStep r ≡ stepAt (payloadStart (kindIn kind) size at) (now (s .entry)) at ⌝ }
+    ensures { λ r. ⌜ payloadStep (now (s .entry)) r ≡ stepAt (payloadStart (kindIn kind) size at) (now (s .entry)) at ⌝ }
 {
     if is_listed(kind) {
         if s.len() - at < COUNT_SIZE {
@@ -219,7 +219,7 @@ fn no_tables() -> DebugTables
 
 // The section's reader: why it does not read, or where its tables in force stand.
 pub fn read_tables(s: &[u8]) -> DebugTablesAnswer
-    ensures { λ r. ⌜ debugTablesFrom r ≡ itemOf (debugStarts (now (s .entry))) ⌝ }
+    ensures { λ r. ⌜ debugTablesFrom (now (s .entry)) r ≡ itemOf (debugStarts (now (s .entry))) ⌝ }
 {
     if s.len() < COUNT_SIZE {
         return DebugTablesAnswer::Fault(DebugFault::Short);
@@ -250,7 +250,7 @@ pub fn read_tables(s: &[u8]) -> DebugTablesAnswer
 
 // The section's reader by its counts: why it does not read, or how many entries its tables have.
 pub fn read_from(s: &[u8]) -> DebugCountsAnswer
-    ensures { λ r. ⌜ debugCountsFrom r ≡ countsRead (now (s .entry)) ⌝ }
+    ensures { λ r. ⌜ debugCountsFrom (now (s .entry)) r ≡ countsRead (now (s .entry)) ⌝ }
 {
     match read_tables(s) {
         DebugTablesAnswer::Fault(e) => DebugCountsAnswer::Fault(e),

@@ -14,7 +14,7 @@ use Rattle.debug_tables.proofs.read_from.Tie as tie
 told : (c : tie.After-struct-known) → TwoByteCounts (c .before .before .t .given .0 .0)
 told c =
     few (now (c .before .before .before .before .before .before .args .s)) (λ i. omega (arith, c .before .before .before .before .before .shared-slice-known .given i)) (c .before .before .t .given .0 .0)
-    (sym (ap debugTablesFrom (sym (c .before .before .t .given .1)) ∙ c .before .before .before .before .read-tables .ensures))
+    (sym (ap (debugTablesFrom _) (sym (c .before .before .t .given .1)) ∙ c .before .before .before .before .read-tables .ensures))
 
 cast-t6 : tie.Need-cast-t6
 cast-t6 c = omega (arith, told c .lines)
@@ -35,10 +35,10 @@ cast-t11 : tie.Need-cast-t11
 cast-t11 c = omega (arith, told (c .before .before .before .before .before) .enumerations)
 
 returns : tie.Need-returns
-returns c = none-counted (now (c .before .before .before .before .before .args .s)) _ (ap debugTablesFrom (sym (c .before .e .given .1)) ∙ c .before .before .before .read-tables .ensures)
+returns c = none-counted (now (c .before .before .before .before .before .args .s)) _ (ap (debugTablesFrom _) (sym (c .before .e .given .1)) ∙ c .before .before .before .read-tables .ensures)
 
 returns-2 : tie.Need-returns-2
-returns-2 c = some-counted (now (c .before .before .before .before .before .before .before .before .before .before .before .args .s)) _ (ap debugTablesFrom (sym (c .before .before .before .before .before .before .before .t .given .1)) ∙ c .before .before .before .before .before .before .before .before .before .read-tables .ensures)
+returns-2 c = some-counted (now (c .before .before .before .before .before .before .before .before .before .before .before .args .s)) _ (ap (debugTablesFrom _) (sym (c .before .before .before .before .before .before .before .t .given .1)) ∙ c .before .before .before .before .before .before .before .before .before .read-tables .ensures)
 
 pub read-from-spec : {M : Type 1} → statement M
 read-from-spec =

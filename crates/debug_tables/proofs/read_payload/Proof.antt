@@ -23,7 +23,7 @@ returns-2 c =
     let s = now (a .s) in
     let k = kindIn (a .kind) in
     let n = c .before .before .before .before .u16-at .result in
-    let g = goes-told (entriesOf k n) s _ (ap wayOf (c .before .e .given .1)) (goes-at (stays-entries s k n) _ (c .before .before .before .skip-entries .ensures)) in
+    let g = goes-told (entriesOf k n) s _ (ap (wayOf _) (c .before .e .given .1)) (goes-at (stays-entries s k n) _ (c .before .before .before .skip-entries .ensures)) in
     step-at _ _ _ _ (listed-stop k (a .size) s (a .at) (sym (c .before .before .before .before .before .before .before .is-listed .ensures) ∙ c .before .before .before .before .before .before .if1 .taken) n (omega arith) (c .before .before .before .before .u16-at .ensures) _ g)
 
 returns-3 : tie.Need-returns-3
@@ -32,7 +32,7 @@ returns-3 c =
     let s = now (a .s) in
     let k = kindIn (a .kind) in
     let n = c .before .before .before .before .u16-at .result in
-    let g = goes-told (entriesOf k n) s _ (ap wayOf (c .before .m .given .1)) (goes-at (stays-entries s k n) _ (c .before .before .before .skip-entries .ensures)) in
+    let g = goes-told (entriesOf k n) s _ (ap (wayOf _) (c .before .m .given .1)) (goes-at (stays-entries s k n) _ (c .before .before .before .skip-entries .ensures)) in
     step-at _ _ _ _ (listed-is k (a .size) s (a .at) (sym (c .before .before .before .before .before .before .before .is-listed .ensures) ∙ c .before .before .before .before .before .before .if1 .taken) n (omega arith) (c .before .before .before .before .u16-at .ensures) _ g)
 
 returns-4 : tie.Need-returns-4
