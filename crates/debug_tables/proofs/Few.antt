@@ -21,6 +21,7 @@ use Rattle.debug_tables.specs.Starts.{nowhere, noStarts, entriesAt, asid
 use Rattle.debug_tables.specs.Laws.{TwoByteCounts, Laws}
 use Rattle.debug_tables.specs.declared.DebugTables.{DebugTables}
 use Rattle.debug_tables.proofs.Payloads.{start-listed, stand-listed, other-as}
+use Rattle.debug_tables.proofs.BadPlaces.{placed}
 use Rattle.debug_tables.proofs.Standing as standing
 
 none-few : TwoByteCounts noStarts
@@ -85,6 +86,7 @@ module _ (s : List ℕ) (b : Bytes s) where
 pub laws : Laws
 laws =
     record {
+      placed = placed;
       unreadable = λ base s f e. standing.unreadable (keepIn base s) s f e;
       readable = λ base s u e. standing.readable (keepIn base s) s u e;
       few = λ s u b e. few s b u e;

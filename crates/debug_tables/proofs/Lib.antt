@@ -2,4 +2,5 @@ pub mod Payloads
 pub mod Rows
 pub mod Standing
 pub mod Counts
+pub mod BadPlaces
 pub mod Few

@@ -20,6 +20,8 @@ use Rattle.debug_tables.specs.declared.DebugCountsAnswer.{DebugCountsAns
 use Rattle.debug_tables.specs.declared.DebugCountsAnswer.the-variants as counts
 use Rattle.debug_tables.specs.declared.MaybeDebug.{MaybeDebug}
 use Rattle.debug_tables.specs.declared.MaybeDebug.the-variants as maybe
+use Rattle.debug_tables.specs.declared.BadPlace.{BadPlace}
+use Rattle.debug_tables.specs.declared.BadPlace.the-variants as place
 
 abbrev pub kindIn : TableKind → Kind
 kindIn kind.Lines = lines
@@ -58,3 +60,8 @@ debugCountsFrom s (counts.Counts c) = found (debugCountsIn c)
 abbrev pub maybeDebug : MaybeDebug → Option record-of.DebugCounts
 maybeDebug maybe.None = none
 maybeDebug (maybe.Some c) = some (debugCountsIn c)
+
+-- the bad place of a section
+abbrev pub badPlaceIn : BadPlace → Option ℕ
+badPlaceIn place.None = none
+badPlaceIn (place.At p) = some p

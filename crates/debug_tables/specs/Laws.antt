@@ -8,7 +8,9 @@ use Rattle.reading.specs.Answer.{refused, found, itemOf}
 use Rattle.reading.specs.Places.{Holds}
 use Rattle.format.specs.Parts.{Keep}
 use Rattle.format.specs.Debug.{line, variable, functionName, stringLayout, sourceFile, enumeration, Tables, debugTables}
-use Rattle.debug_text.specs.Answers.{keepIn}
+use Rattle.requests.specs.BadPlace.{badPlace}
+use Rattle.debug_text.specs.Answers.{keepIn, debugFaultOf, faultPlace}
+use Rattle.debug_text.specs.declared.DebugFault.{DebugFault}
 use Rattle.debug_tables.specs.declared.DebugTables.{DebugTables}
 use Rattle.debug_tables.specs.Starts.{debugStarts}
 
@@ -37,6 +39,8 @@ pub record TwoByteCounts (u : DebugTables) : Type 0 where
   pub enumerations : u .enumerations .count < 65536
 
 pub record Laws : Type 0 where
+  -- document 02, slip 1: a fault that meets the reader's contract tells the section's bad place
+  pub placed : (s : List ℕ) (e : DebugFault) → refused (debugFaultOf s e) ≡ itemOf (debugStarts s) → faultPlace e ≡ badPlace s
   pub unreadable : (base : ℕ) (s : List ℕ) (f : Fault) → itemOf (debugStarts s) ≡ refused f → itemOf (debugTables (keepIn base s) s) ≡ refused f
   pub readable : (base : ℕ) (s : List ℕ) (u : DebugTables) → itemOf (debugStarts s) ≡ found u → DebugReadable (keepIn base s) s u
   pub few : (s : List ℕ) (u : DebugTables) → ((i : ℕ) → getD s i 0 < 256) → itemOf (debugStarts s) ≡ found u → TwoByteCounts u

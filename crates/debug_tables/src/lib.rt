@@ -19,10 +19,11 @@ ghost use Rattle.reading.specs.Reader.{many};
 ghost use Rattle.reading.specs.Answer.{itemOf};
 ghost use Rattle.reading.specs.Places.{stepAt, wayAt};
 ghost use Rattle.format.specs.Debug.{line, kindOf};
+ghost use Rattle.requests.specs.BadPlace.{badPlace};
 ghost use Rattle.debug_text.specs.Answers.{wayOf};
 ghost use Rattle.debug_tables.specs.Starts.{noStarts, isListed, entriesOf, payloadStart, putAs, debugStarts};
 ghost use Rattle.debug_tables.specs.Counts.{countsRead};
-ghost use Rattle.debug_tables.specs.Answers.{kindIn, payloadStep, debugTablesFrom, debugCountsFrom};
+ghost use Rattle.debug_tables.specs.Answers.{kindIn, payloadStep, debugTablesFrom, debugCountsFrom, badPlaceIn};
 ghost use Rattle.debug_tables.specs.Laws.{Laws};
 
 const TAG_LINE_MAP: u16 = 1;
@@ -94,6 +95,13 @@ pub enum MaybeDebug {
 pub enum DebugCountsAnswer {
     Fault(DebugFault),
     Counts(DebugCounts),
+}
+
+// Which byte keeps a section from being read: where the first fault in it is a name or a path that lies whole in it and is not UTF-8, the
+// place of its first bad byte, counted from the section's start.
+pub enum BadPlace {
+    None,
+    At(usize),
 }
 
 fn kind_of(tag: u16) -> TableKind
@@ -262,6 +270,19 @@ pub fn read_from(s: &[u8]) -> DebugCountsAnswer
             files: t.files.count as u16,
             enumerations: t.enumerations.count as u16,
         }),
+    }
+}
+
+// The section's bad place; none where it reads, or ends before an announced item.
+pub fn bad_place(s: &[u8]) -> BadPlace
+    ensures { λ r. ⌜ badPlaceIn r ≡ badPlace (now (s .entry)) ⌝ }
+{
+    match read_tables(s) {
+        DebugTablesAnswer::Fault(e) => match e {
+            DebugFault::Short => BadPlace::None,
+            DebugFault::BadText(p) => BadPlace::At(p),
+        },
+        DebugTablesAnswer::Tables(_) => BadPlace::None,
     }
 }
 

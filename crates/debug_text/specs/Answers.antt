@@ -1,6 +1,7 @@
 -- What the code's answers mean.
 use Prim.Native.Nat.{ℕ, _+_, _-_, _^_, _<_}
 use mathlib.Core.List.{List}
+use mathlib.Core.Option.{Option, none, some}
 use lib.ListN.{length}
 use Rattle.reading.specs.Fault.{Fault, shortInput, badText}
 use Rattle.reading.specs.Answer.{Got, refused, found}
@@ -32,6 +33,11 @@ keepIn base s = byPlace (record { offset = base; size = length s })
 abbrev pub debugFaultOf : List ℕ → DebugFault → Fault
 debugFaultOf s debugFault.Short = shortInput
 debugFaultOf s (debugFault.BadText p) = badText (length s - p)
+
+-- the place that it tells
+abbrev pub faultPlace : DebugFault → Option ℕ
+faultPlace debugFault.Short = none
+faultPlace (debugFault.BadText p) = some p
 
 abbrev pub wayOf : List ℕ → DebugWalk → Way
 wayOf s (walk.Fault e) = stopsBy (debugFaultOf s e)
