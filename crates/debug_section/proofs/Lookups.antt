@@ -31,22 +31,22 @@ use Rattle.debug_section.specs.Lookups.{debugTablesAt, startsAt, enumera
 use Rattle.debug_section.proofs.Parts.{moved, tables-refused, tables-stand}
 
 -- a table that reads gives an entry or 29, and no other refusal
-no-fault : (e : DebugFault) → debugFaultOf e ≡ noEntry → ⊥
-no-fault debugFault.Short h = let z : _≡_ {A = ℕ} 1 29 = ap refusalNumber h in omega arith
-no-fault (debugFault.BadText n) h = let z : _≡_ {A = ℕ} 0 29 = ap refusalNumber h in omega arith
+no-fault : (s : List ℕ) (e : DebugFault) → debugFaultOf s e ≡ noEntry → ⊥
+no-fault s debugFault.Short h = let z : _≡_ {A = ℕ} 1 29 = ap refusalNumber h in omega arith
+no-fault s (debugFault.BadText p) h = let z : _≡_ {A = ℕ} 0 29 = ap refusalNumber h in omega arith
 
 refused-by : {A : Type 0} {e d : Fault} → _≡_ {A = Got A} (refused e) (refused d) → e ≡ d
 refused-by h = cc
 
-indexed-fault : {A : Type 0} (e : DebugFault) (xs : List A) (k : ℕ) → refused (debugFaultOf e) ≡ indexed noEntry xs k → ⊥
-indexed-fault e [] k h = no-fault e (refused-by h)
-indexed-fault e (x ∷ xs) zero h = Rattle.format.proofs.Answers.never h
-indexed-fault e (x ∷ xs) (suc k) h = indexed-fault e xs k h
+indexed-fault : {A : Type 0} (s : List ℕ) (e : DebugFault) (xs : List A) (k : ℕ) → refused (debugFaultOf s e) ≡ indexed noEntry xs k → ⊥
+indexed-fault s e [] k h = no-fault s e (refused-by h)
+indexed-fault s e (x ∷ xs) zero h = Rattle.format.proofs.Answers.never h
+indexed-fault s e (x ∷ xs) (suc k) h = indexed-fault s e xs k h
 
-then-fault : {A B : Type 0} (e : DebugFault) (xs : List A) (k : ℕ) (ys : A → List B) (j : ℕ) → refused (debugFaultOf e) ≡ (indexed noEntry xs k >>= λ a. indexed noEntry (ys a) j) → ⊥
-then-fault e [] k ys j h = no-fault e (refused-by h)
-then-fault e (x ∷ xs) zero ys j h = indexed-fault e (ys x) j h
-then-fault e (x ∷ xs) (suc k) ys j h = then-fault e xs k ys j h
+then-fault : {A B : Type 0} (s : List ℕ) (e : DebugFault) (xs : List A) (k : ℕ) (ys : A → List B) (j : ℕ) → refused (debugFaultOf s e) ≡ (indexed noEntry xs k >>= λ a. indexed noEntry (ys a) j) → ⊥
+then-fault s e [] k ys j h = no-fault s e (refused-by h)
+then-fault s e (x ∷ xs) zero ys j h = indexed-fault s e (ys x) j h
+then-fault s e (x ∷ xs) (suc k) ys j h = then-fault s e xs k ys j h
 
 module _ (f : List ℕ) (p : Place) where
   -- Lookups
@@ -78,10 +78,10 @@ module _ (f : List ℕ) (p : Place) where
       pub look : {x : Got A} → x ≡ picked (r (keepIn (p .offset) (sliced f p))) (sliced f p) (tab u .at) (tab u .count) n → x ≡ (debugTablesAt f p >>= λ t. indexed noEntry (xs t) n)
       look h = h ∙ picked-at
 
-      pub look-fault : {B : Type 0} (e : DebugFault) → refused (debugFaultOf e) ≡ picked (r (keepIn (p .offset) (sliced f p))) (sliced f p) (tab u .at) (tab u .count) n → B
+      pub look-fault : {B : Type 0} (e : DebugFault) → refused (debugFaultOf (sliced f p) e) ≡ picked (r (keepIn (p .offset) (sliced f p))) (sliced f p) (tab u .at) (tab u .count) n → B
       look-fault e h =
           let g = tables-stand f p k in
-          absurd (indexed-fault e (xs (g .tables)) n (look h ∙ ap (λ (y : Got (Tables Place)). y >>= λ t. indexed noEntry (xs t) n) (g .reads)))
+          absurd (indexed-fault (sliced f p) e (xs (g .tables)) n (look h ∙ ap (λ (y : Got (Tables Place)). y >>= λ t. indexed noEntry (xs t) n) (g .reads)))
 
     -- an enumeration
     module _ (n : ℕ) where
@@ -107,7 +107,7 @@ module _ (f : List ℕ) (p : Place) where
       pub look-entry : {x : Got EnumerationWithValues} → x ≡ entry-picks → x ≡ enumerationAt f p n
       look-entry h = look (enumerationEntry (p .offset)) (λ u. u .enumerations) (λ t. map (entryOf (p .offset)) (t .enumerations)) entries-hold n h ∙ entries-as (debugTablesAt f p)
 
-      pub entry-fault : {B : Type 0} (e : DebugFault) → refused (debugFaultOf e) ≡ entry-picks → B
+      pub entry-fault : {B : Type 0} (e : DebugFault) → refused (debugFaultOf (sliced f p) e) ≡ entry-picks → B
       entry-fault e h = look-fault (enumerationEntry (p .offset)) (λ u. u .enumerations) (λ t. map (entryOf (p .offset)) (t .enumerations)) entries-hold n e h
 
       -- the name of one of its values
@@ -119,7 +119,7 @@ module _ (f : List ℕ) (p : Place) where
           ∙ ap (λ (y : Got (Enumeration Place)). y >>= λ e. indexed noEntry (e .values) j) (looked refl ∙ ap (λ (y : Got (Tables Place)). y >>= λ t. indexed noEntry (t .enumerations) n) (g .reads))
           ∙ sym (ap (λ (y : Got (Tables Place)). y >>= λ t. indexed noEntry (t .enumerations) n >>= λ e. indexed noEntry (e .values) j) (g .reads))
 
-      pub value-fault : {B : Type 0} (j : ℕ) (e : DebugFault) → refused (debugFaultOf e) ≡ (picks >>= λ e. indexed noEntry (e .values) j) → B
+      pub value-fault : {B : Type 0} (j : ℕ) (e : DebugFault) → refused (debugFaultOf (sliced f p) e) ≡ (picks >>= λ e. indexed noEntry (e .values) j) → B
       value-fault j e h =
           let g = tables-stand f p k in
-          absurd (then-fault e (g .tables .enumerations) n (λ a. a .values) j (look-value j h ∙ ap (λ (y : Got (Tables Place)). y >>= λ t. indexed noEntry (t .enumerations) n >>= λ e. indexed noEntry (e .values) j) (g .reads)))
+          absurd (then-fault (sliced f p) e (g .tables .enumerations) n (λ a. a .values) j (look-value j h ∙ ap (λ (y : Got (Tables Place)). y >>= λ t. indexed noEntry (t .enumerations) n >>= λ e. indexed noEntry (e .values) j) (g .reads)))

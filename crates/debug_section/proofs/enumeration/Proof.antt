@@ -27,21 +27,21 @@ returns-2 c =
     let a = c .before .before .before .before .before .before .before .before .before .before .before .args in
     let k = ap startsFrom (sym (c .before .before .before .before .before .before .before .t .given .1)) ∙ c .before .before .before .before .before .before .before .before .before .tables .ensures .0 in
     let i = subst (StartsInside (now (a .file)) (placeIn (a .section))) (c .before .before .before .before .before .before .before .t .given .1) (c .before .before .before .before .before .before .before .before .before .tables .ensures .1) in
-    entry-fault (now (a .file)) (placeIn (a .section)) k i (a .index) (c .enum-told .given .0 .0) (ap enumerationFound (sym (c .enum-told .given .1)) ∙ c .before .before .find-enumeration .ensures)
+    entry-fault (now (a .file)) (placeIn (a .section)) k i (a .index) (c .enum-told .given .0 .0) (ap (enumerationFound _) (sym (c .enum-told .given .1)) ∙ c .before .before .find-enumeration .ensures)
 
 returns-3 : tie.Need-returns-3
 returns-3 c =
     let a = c .before .before .before .before .before .before .before .before .before .before .before .args in
     let k = ap startsFrom (sym (c .before .before .before .before .before .before .before .t .given .1)) ∙ c .before .before .before .before .before .before .before .before .before .tables .ensures .0 in
     let i = subst (StartsInside (now (a .file)) (placeIn (a .section))) (c .before .before .before .before .before .before .before .t .given .1) (c .before .before .before .before .before .before .before .before .before .tables .ensures .1) in
-    look-entry (now (a .file)) (placeIn (a .section)) k i (a .index) (ap enumerationFound (sym (c .enum-told2 .given .1)) ∙ c .before .before .find-enumeration .ensures)
+    look-entry (now (a .file)) (placeIn (a .section)) k i (a .index) (ap (enumerationFound _) (sym (c .enum-told2 .given .1)) ∙ c .before .before .find-enumeration .ensures)
 
 returns-4 : tie.Need-returns-4
 returns-4 c =
     let a = c .before .before .before .before .before .before .before .before .before .before .before .before .args in
     let k = ap startsFrom (sym (c .before .before .before .before .before .before .before .before .t .given .1)) ∙ c .before .before .before .before .before .before .before .before .before .before .tables .ensures .0 in
     let i = subst (StartsInside (now (a .file)) (placeIn (a .section))) (c .before .before .before .before .before .before .before .before .t .given .1) (c .before .before .before .before .before .before .before .before .before .before .tables .ensures .1) in
-    look-entry (now (a .file)) (placeIn (a .section)) k i (a .index) (ap enumerationFound (sym (c .before .x .given .1)) ∙ c .before .before .before .find-enumeration .ensures)
+    look-entry (now (a .file)) (placeIn (a .section)) k i (a .index) (ap (enumerationFound _) (sym (c .before .x .given .1)) ∙ c .before .before .before .find-enumeration .ensures)
 
 pub enumeration-spec : {M : Type 1} → statement M
 enumeration-spec =

@@ -23,21 +23,21 @@ returns-2 c =
     let a = c .before .before .before .before .before .before .before .before .before .before .before .args in
     let k = ap startsFrom (sym (c .before .before .before .before .before .before .before .t .given .1)) ∙ c .before .before .before .before .before .before .before .before .before .tables .ensures .0 in
     let i = subst (StartsInside (now (a .file)) (placeIn (a .section))) (c .before .before .before .before .before .before .before .t .given .1) (c .before .before .before .before .before .before .before .before .before .tables .ensures .1) in
-    value-fault (now (a .file)) (placeIn (a .section)) k i (a .index) (a .value) (c .enum-told .given .0 .0) (ap nameFound (sym (c .enum-told .given .1)) ∙ c .before .before .find-enumeration-value .ensures)
+    value-fault (now (a .file)) (placeIn (a .section)) k i (a .index) (a .value) (c .enum-told .given .0 .0) (ap (nameFound _) (sym (c .enum-told .given .1)) ∙ c .before .before .find-enumeration-value .ensures)
 
 returns-3 : tie.Need-returns-3
 returns-3 c =
     let a = c .before .before .before .before .before .before .before .before .before .before .before .args in
     let k = ap startsFrom (sym (c .before .before .before .before .before .before .before .t .given .1)) ∙ c .before .before .before .before .before .before .before .before .before .tables .ensures .0 in
     let i = subst (StartsInside (now (a .file)) (placeIn (a .section))) (c .before .before .before .before .before .before .before .t .given .1) (c .before .before .before .before .before .before .before .before .before .tables .ensures .1) in
-    look-value (now (a .file)) (placeIn (a .section)) k i (a .index) (a .value) (ap nameFound (sym (c .enum-told2 .given .1)) ∙ c .before .before .find-enumeration-value .ensures)
+    look-value (now (a .file)) (placeIn (a .section)) k i (a .index) (a .value) (ap (nameFound _) (sym (c .enum-told2 .given .1)) ∙ c .before .before .find-enumeration-value .ensures)
 
 returns-4 : tie.Need-returns-4
 returns-4 c =
     let a = c .before .before .before .before .before .before .before .before .before .before .before .before .args in
     let k = ap startsFrom (sym (c .before .before .before .before .before .before .before .before .t .given .1)) ∙ c .before .before .before .before .before .before .before .before .before .before .tables .ensures .0 in
     let i = subst (StartsInside (now (a .file)) (placeIn (a .section))) (c .before .before .before .before .before .before .before .before .t .given .1) (c .before .before .before .before .before .before .before .before .before .before .tables .ensures .1) in
-    look-value (now (a .file)) (placeIn (a .section)) k i (a .index) (a .value) (ap nameFound (sym (c .before .x .given .1)) ∙ c .before .before .before .find-enumeration-value .ensures)
+    look-value (now (a .file)) (placeIn (a .section)) k i (a .index) (a .value) (ap (nameFound _) (sym (c .before .x .given .1)) ∙ c .before .before .before .find-enumeration-value .ensures)
 
 pub enumeration-value-spec : {M : Type 1} → statement M
 enumeration-value-spec =

@@ -24,21 +24,21 @@ returns-2 c =
     let a = c .before .before .before .before .before .before .before .before .before .before .before .args in
     let k = ap startsFrom (sym (c .before .before .before .before .before .before .before .t .given .1)) ∙ c .before .before .before .before .before .before .before .before .before .tables .ensures .0 in
     let i = subst (StartsInside (now (a .file)) (placeIn (a .section))) (c .before .before .before .before .before .before .before .t .given .1) (c .before .before .before .before .before .before .before .before .before .tables .ensures .1) in
-    look-fault (now (a .file)) (placeIn (a .section)) k i functionName (λ u. u .functions) (λ t. t .functions) (λ t s. s .functions) (a .index) (c .enum-told .given .0 .0) (ap functionNameFound (sym (c .enum-told .given .1)) ∙ c .before .before .find-function-name .ensures)
+    look-fault (now (a .file)) (placeIn (a .section)) k i functionName (λ u. u .functions) (λ t. t .functions) (λ t s. s .functions) (a .index) (c .enum-told .given .0 .0) (ap (functionNameFound _) (sym (c .enum-told .given .1)) ∙ c .before .before .find-function-name .ensures)
 
 returns-3 : tie.Need-returns-3
 returns-3 c =
     let a = c .before .before .before .before .before .before .before .before .before .before .before .args in
     let k = ap startsFrom (sym (c .before .before .before .before .before .before .before .t .given .1)) ∙ c .before .before .before .before .before .before .before .before .before .tables .ensures .0 in
     let i = subst (StartsInside (now (a .file)) (placeIn (a .section))) (c .before .before .before .before .before .before .before .t .given .1) (c .before .before .before .before .before .before .before .before .before .tables .ensures .1) in
-    look (now (a .file)) (placeIn (a .section)) k i functionName (λ u. u .functions) (λ t. t .functions) (λ t s. s .functions) (a .index) (ap functionNameFound (sym (c .enum-told2 .given .1)) ∙ c .before .before .find-function-name .ensures)
+    look (now (a .file)) (placeIn (a .section)) k i functionName (λ u. u .functions) (λ t. t .functions) (λ t s. s .functions) (a .index) (ap (functionNameFound _) (sym (c .enum-told2 .given .1)) ∙ c .before .before .find-function-name .ensures)
 
 returns-4 : tie.Need-returns-4
 returns-4 c =
     let a = c .before .before .before .before .before .before .before .before .before .before .before .before .args in
     let k = ap startsFrom (sym (c .before .before .before .before .before .before .before .before .t .given .1)) ∙ c .before .before .before .before .before .before .before .before .before .before .tables .ensures .0 in
     let i = subst (StartsInside (now (a .file)) (placeIn (a .section))) (c .before .before .before .before .before .before .before .before .t .given .1) (c .before .before .before .before .before .before .before .before .before .before .tables .ensures .1) in
-    look (now (a .file)) (placeIn (a .section)) k i functionName (λ u. u .functions) (λ t. t .functions) (λ t s. s .functions) (a .index) (ap functionNameFound (sym (c .before .x .given .1)) ∙ c .before .before .before .find-function-name .ensures)
+    look (now (a .file)) (placeIn (a .section)) k i functionName (λ u. u .functions) (λ t. t .functions) (λ t s. s .functions) (a .index) (ap (functionNameFound _) (sym (c .before .x .given .1)) ∙ c .before .before .before .find-function-name .ensures)
 
 pub function-name-spec : {M : Type 1} → statement M
 function-name-spec =

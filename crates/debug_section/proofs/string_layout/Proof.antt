@@ -24,21 +24,21 @@ returns-2 c =
     let a = c .before .before .before .before .before .before .before .before .before .before .before .args in
     let k = ap startsFrom (sym (c .before .before .before .before .before .before .before .t .given .1)) ∙ c .before .before .before .before .before .before .before .before .before .tables .ensures .0 in
     let i = subst (StartsInside (now (a .file)) (placeIn (a .section))) (c .before .before .before .before .before .before .before .t .given .1) (c .before .before .before .before .before .before .before .before .before .tables .ensures .1) in
-    look-fault (now (a .file)) (placeIn (a .section)) k i (λ keep. stringLayout) (λ u. u .strings) (λ t. t .strings) (λ t s. s .strings) (a .index) (c .enum-told .given .0 .0) (ap stringLayoutFound (sym (c .enum-told .given .1)) ∙ c .before .before .find-string-layout .ensures)
+    look-fault (now (a .file)) (placeIn (a .section)) k i (λ keep. stringLayout) (λ u. u .strings) (λ t. t .strings) (λ t s. s .strings) (a .index) (c .enum-told .given .0 .0) (ap (stringLayoutFound _) (sym (c .enum-told .given .1)) ∙ c .before .before .find-string-layout .ensures)
 
 returns-3 : tie.Need-returns-3
 returns-3 c =
     let a = c .before .before .before .before .before .before .before .before .before .before .before .args in
     let k = ap startsFrom (sym (c .before .before .before .before .before .before .before .t .given .1)) ∙ c .before .before .before .before .before .before .before .before .before .tables .ensures .0 in
     let i = subst (StartsInside (now (a .file)) (placeIn (a .section))) (c .before .before .before .before .before .before .before .t .given .1) (c .before .before .before .before .before .before .before .before .before .tables .ensures .1) in
-    look (now (a .file)) (placeIn (a .section)) k i (λ keep. stringLayout) (λ u. u .strings) (λ t. t .strings) (λ t s. s .strings) (a .index) (ap stringLayoutFound (sym (c .enum-told2 .given .1)) ∙ c .before .before .find-string-layout .ensures)
+    look (now (a .file)) (placeIn (a .section)) k i (λ keep. stringLayout) (λ u. u .strings) (λ t. t .strings) (λ t s. s .strings) (a .index) (ap (stringLayoutFound _) (sym (c .enum-told2 .given .1)) ∙ c .before .before .find-string-layout .ensures)
 
 returns-4 : tie.Need-returns-4
 returns-4 c =
     let a = c .before .before .before .before .before .before .before .before .before .before .before .before .args in
     let k = ap startsFrom (sym (c .before .before .before .before .before .before .before .before .t .given .1)) ∙ c .before .before .before .before .before .before .before .before .before .before .tables .ensures .0 in
     let i = subst (StartsInside (now (a .file)) (placeIn (a .section))) (c .before .before .before .before .before .before .before .before .t .given .1) (c .before .before .before .before .before .before .before .before .before .before .tables .ensures .1) in
-    look (now (a .file)) (placeIn (a .section)) k i (λ keep. stringLayout) (λ u. u .strings) (λ t. t .strings) (λ t s. s .strings) (a .index) (ap stringLayoutFound (sym (c .before .x .given .1)) ∙ c .before .before .before .find-string-layout .ensures)
+    look (now (a .file)) (placeIn (a .section)) k i (λ keep. stringLayout) (λ u. u .strings) (λ t. t .strings) (λ t s. s .strings) (a .index) (ap (stringLayoutFound _) (sym (c .before .x .given .1)) ∙ c .before .before .before .find-string-layout .ensures)
 
 pub string-layout-spec : {M : Type 1} → statement M
 string-layout-spec =

@@ -24,13 +24,13 @@ returns-2 : tie.Need-returns-2
 returns-2 c =
     let a = c .before .before .before .before .before .before .before .before .before .before .args in
     let k = ap partFrom (sym (c .before .before .before .before .before .before .p .given .1)) ∙ c .before .before .before .before .before .before .before .before .debug-part .ensures .0 in
-    (starts-out (now (a .file)) (placeIn (a .section)) k (ap debugTablesFrom (sym (c .enum-told .given .1)) ∙ c .before .before .read-tables .ensures), tt)
+    (starts-out (now (a .file)) (placeIn (a .section)) k (ap (debugTablesFrom _) (sym (c .enum-told .given .1)) ∙ c .before .before .read-tables .ensures), tt)
 
 returns-3 : tie.Need-returns-3
 returns-3 c =
     let a = c .before .before .before .before .before .before .before .before .before .before .before .args in
     let k = ap partFrom (sym (c .before .before .before .before .before .before .before .p .given .1)) ∙ c .before .before .before .before .before .before .before .before .before .debug-part .ensures .0 in
-    (starts-in (now (a .file)) (placeIn (a .section)) k (ap debugTablesFrom (sym (c .before .t .given .1)) ∙ c .before .before .before .read-tables .ensures), in-part (now (a .file)) (placeIn (a .section)) k .inside)
+    (starts-in (now (a .file)) (placeIn (a .section)) k (ap (debugTablesFrom _) (sym (c .before .t .given .1)) ∙ c .before .before .before .read-tables .ensures), in-part (now (a .file)) (placeIn (a .section)) k .inside)
 
 pub tables-spec : {M : Type 1} → statement M
 tables-spec =

@@ -24,21 +24,21 @@ returns-2 c =
     let a = c .before .before .before .before .before .before .before .before .before .before .before .args in
     let k = ap startsFrom (sym (c .before .before .before .before .before .before .before .t .given .1)) ∙ c .before .before .before .before .before .before .before .before .before .tables .ensures .0 in
     let i = subst (StartsInside (now (a .file)) (placeIn (a .section))) (c .before .before .before .before .before .before .before .t .given .1) (c .before .before .before .before .before .before .before .before .before .tables .ensures .1) in
-    look-fault (now (a .file)) (placeIn (a .section)) k i variable (λ u. u .variables) (λ t. t .variables) (λ t s. s .variables) (a .index) (c .enum-told .given .0 .0) (ap variableFound (sym (c .enum-told .given .1)) ∙ c .before .before .find-variable .ensures)
+    look-fault (now (a .file)) (placeIn (a .section)) k i variable (λ u. u .variables) (λ t. t .variables) (λ t s. s .variables) (a .index) (c .enum-told .given .0 .0) (ap (variableFound _) (sym (c .enum-told .given .1)) ∙ c .before .before .find-variable .ensures)
 
 returns-3 : tie.Need-returns-3
 returns-3 c =
     let a = c .before .before .before .before .before .before .before .before .before .before .before .args in
     let k = ap startsFrom (sym (c .before .before .before .before .before .before .before .t .given .1)) ∙ c .before .before .before .before .before .before .before .before .before .tables .ensures .0 in
     let i = subst (StartsInside (now (a .file)) (placeIn (a .section))) (c .before .before .before .before .before .before .before .t .given .1) (c .before .before .before .before .before .before .before .before .before .tables .ensures .1) in
-    look (now (a .file)) (placeIn (a .section)) k i variable (λ u. u .variables) (λ t. t .variables) (λ t s. s .variables) (a .index) (ap variableFound (sym (c .enum-told2 .given .1)) ∙ c .before .before .find-variable .ensures)
+    look (now (a .file)) (placeIn (a .section)) k i variable (λ u. u .variables) (λ t. t .variables) (λ t s. s .variables) (a .index) (ap (variableFound _) (sym (c .enum-told2 .given .1)) ∙ c .before .before .find-variable .ensures)
 
 returns-4 : tie.Need-returns-4
 returns-4 c =
     let a = c .before .before .before .before .before .before .before .before .before .before .before .before .args in
     let k = ap startsFrom (sym (c .before .before .before .before .before .before .before .before .t .given .1)) ∙ c .before .before .before .before .before .before .before .before .before .before .tables .ensures .0 in
     let i = subst (StartsInside (now (a .file)) (placeIn (a .section))) (c .before .before .before .before .before .before .before .before .t .given .1) (c .before .before .before .before .before .before .before .before .before .before .tables .ensures .1) in
-    look (now (a .file)) (placeIn (a .section)) k i variable (λ u. u .variables) (λ t. t .variables) (λ t s. s .variables) (a .index) (ap variableFound (sym (c .before .x .given .1)) ∙ c .before .before .before .find-variable .ensures)
+    look (now (a .file)) (placeIn (a .section)) k i variable (λ u. u .variables) (λ t. t .variables) (λ t s. s .variables) (a .index) (ap (variableFound _) (sym (c .before .x .given .1)) ∙ c .before .before .before .find-variable .ensures)
 
 pub variable-spec : {M : Type 1} → statement M
 variable-spec =
