@@ -1,7 +1,8 @@
 -- The section's part of the file, and its tables, by the code's answers.
 use mathlib.Core.Path.{_≡_, refl, sym, ap, subst, _∙_}
-use mathlib.Core.Bool.{Bool, true, false}
+use mathlib.Core.Bool.{Bool, true, false, _&&_, cond}
 use mathlib.Core.List.{List}
+use mathlib.Core.Option.{Option, none}
 use Prim.Native.Nat.{ℕ, _≤_, _<_}
 use lib.Dec.{leb}
 use lib.ListN.{length}
@@ -16,6 +17,7 @@ use Rattle.format.specs.Load.{readIn}
 use Rattle.format.specs.Lookups.{orNoDebug, debugAt}
 use Rattle.format.proofs.Answers.{never, same-found}
 use Rattle.format.proofs.Places.{inside-is, is-inside, length-cut}
+use Rattle.requests.specs.BadPlace.{badPlace, badPlaceAt}
 use Rattle.base.specs.Section.{sectionPart}
 use Rattle.base.proofs.FileLookups.{sliced, slice-is}
 use Rattle.debug_text.specs.Answers.{keepIn}
@@ -87,6 +89,25 @@ module _ (f : List ℕ) (p : Place) where
     starts-in {u} h =
         let g = in-part k in
         ap orNoDebug (moved (g .same) (g .inside) (λ keep s. found u ≡ itemOf (debugStarts s)) h) ∙ sym (g .starts)
+
+  -- the section's bad place
+  pub place-out : {e : Fault} → refused e ≡ debugPart f p → none ≡ badPlaceAt f p
+  unfolding debugPart badPlaceAt
+  place-out {e} k = go (leb (length f) limit) (isInside f p) k
+    where
+      go : (y z : Bool) → refused e ≡ (need y tooLong >>= λ u. need z noDebug >> found p) → none ≡ cond (y && z) (badPlace (cut f p)) none
+      go true true k = never k
+      go true false k = refl
+      go false z k = refl
+
+  pub place-in : {q : Place} {x : Option ℕ} → found q ≡ debugPart f p → x ≡ badPlace (sliced f q) → x ≡ badPlaceAt f p
+  unfolding debugPart badPlaceAt
+  place-in {q} {x} k h = go (leb (length f) limit) (isInside f p) k
+    where
+      go : (y z : Bool) → found q ≡ (need y tooLong >>= λ u. need z noDebug >> found p) → x ≡ cond (y && z) (badPlace (cut f p)) none
+      go true true k = h ∙ ap badPlace (slice-is f q ∙ ap (cut f) (same-found k))
+      go true false k = never (sym k)
+      go false z k = never (sym k)
 
   -- the tables are refused as their places are, and else stand there
   pub record Stand (u : DebugTables) : Type 0 where

@@ -23,14 +23,17 @@ use debug_entries::string_layouts::StringLayoutFound;
 use debug_entries::variables;
 use debug_entries::variables::VariableEntry;
 use debug_entries::variables::VariableFound;
+use debug_tables::BadPlace;
 use debug_tables::DebugTables;
 use debug_tables::DebugTablesAnswer;
 use debug_tables::read_tables;
 use debug_text::NameFound;
 use line_map::LineAnswer;
 ghost use mathlib.Core.Path.{_≡_};
+ghost use Rattle.requests.specs.BadPlace.{badPlaceAt};
 ghost use Rattle.base.specs.Section.{placeIn, partFrom, PartWithin};
 ghost use Rattle.line_map.specs.Answers.{lineFrom};
+ghost use Rattle.debug_tables.specs.Answers.{badPlaceIn};
 ghost use Rattle.debug_section.specs.Lookups.{debugPart, startsAt, answersAt, enumerationAt};
 ghost use Rattle.debug_section.specs.Laws.{Laws};
 ghost use Rattle.debug_section.specs.Answers.{startsFrom, StartsInside, variableFrom, functionNameFrom, layoutFrom, sourceFrom, enumerationFrom, valueFrom};
@@ -97,6 +100,20 @@ pub fn tables(file: &[u8], section: Section) -> StartsAnswer
                 DebugTablesAnswer::Fault(_) => StartsAnswer::Refused(ContainerError::NoDebug),
                 DebugTablesAnswer::Tables(t) => StartsAnswer::Starts(t),
             }
+        }
+    }
+}
+
+// The section's bad place; none over the file's limit, or where the section does not lie in the file behind the header.
+pub fn bad_place(file: &[u8], section: Section) -> BadPlace
+    ensures { λ r. ⌜ badPlaceIn r ≡ badPlaceAt (now (file .entry)) (placeIn section) ⌝ }
+{
+    match debug_part(file, section) {
+        PartAnswer::Refused(_) => BadPlace::None,
+        PartAnswer::Part(p) => {
+            let start = p.offset;
+            let end = start + p.size;
+            debug_tables::bad_place(&file[start..end])
         }
     }
 }
