@@ -147,17 +147,18 @@ module _ (f : List ℕ) (h : Header) where
       go true false d k = sym (ap stateCounts (d refl))
       go false i d k = refl
 
-  pub debug-inside : {q : Place} {x : DebugState DebugCounts} → (h .directory .debug .size ≡ 0 → ⊥) → found q ≡ sectionPart f (h .directory .debug)
-      → x ≡ sectionState (h .debugHash) (sliced f q) → x ≡ debugStateOf f h
+  -- `x` is a state, by the section's bytes
+  pub debug-inside : {q : Place} (x : List ℕ → DebugState DebugCounts) → (h .directory .debug .size ≡ 0 → ⊥) → found q ≡ sectionPart f (h .directory .debug)
+      → x (sliced f q) ≡ sectionState (h .debugHash) (sliced f q) → x (cut f (h .directory .debug)) ≡ debugStateOf f h
   unfolding debugStateOf
-  debug-inside {q} {x} n k e =
+  debug-inside {q} x n k e =
       let p = h .directory .debug in
       let l = part-within f p k in
       let s = part-inside f p l k in
       let a = length-cut f p (s .inside) in
       let b = inside-is f p (s .inside) .within in
       let w : length (cut f p) ≤ hashLimit = omega arith in
-      rw (le-leb _ _ l) (e ∙ ap (sectionState (h .debugHash)) (s .bytes) ∙ go (debugFits (h .debugHash) (cut f p)) (laws .debug (h .debugHash) (cut f p) w) (debug-states blake3 f h .hash-unequal (omega arith) (s .inside)) (section-decides blake3 f h (omega arith) (s .inside)))
+      rw (le-leb _ _ l) (ap x (sym (s .bytes)) ∙ e ∙ ap (sectionState (h .debugHash)) (s .bytes) ∙ go (debugFits (h .debugHash) (cut f p)) (laws .debug (h .debugHash) (cut f p) w) (debug-states blake3 f h .hash-unequal (omega arith) (s .inside)) (section-decides blake3 f h (omega arith) (s .inside)))
     where
       go : (b : Bool) {c : Bool} {x : DebugState (Tables (List ℕ))} → b ≡ c → (c ≡ false → debugState blake3 f h ≡ hashDiffers) → (c ≡ true → debugState blake3 f h ≡ x)
           → cond b (stateCounts x) hashDiffers ≡ stateCounts (debugState blake3 f h)

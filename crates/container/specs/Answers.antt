@@ -1,4 +1,6 @@
 -- What the code's answers mean.
+use Prim.Native.Nat.{ℕ}
+use mathlib.Core.List.{List}
 use mathlib.Core.Option.{Option}
 use Rattle.reading.specs.Answer.{Got, refused, found}
 use Rattle.format.specs.Load as load
@@ -22,9 +24,10 @@ abbrev pub typesReadFrom : TypesRead → Got (Option format.TypeCounts)
 typesReadFrom (types.Refused e) = refused (faultOf e)
 typesReadFrom (types.Types t) = found (maybeTypes t)
 
-abbrev pub debugStateIn : DebugState → load.DebugState format.DebugCounts
-debugStateIn state.Empty = load.empty
-debugStateIn state.Outside = load.outside
-debugStateIn state.HashDiffers = load.hashDiffers
-debugStateIn (state.Unreadable e) = load.unreadable (debugFaultOf e)
-debugStateIn (state.Read c) = load.read (debugCountsIn c)
+-- of a file whose debug section is `s`
+abbrev pub debugStateIn : List ℕ → DebugState → load.DebugState format.DebugCounts
+debugStateIn s state.Empty = load.empty
+debugStateIn s state.Outside = load.outside
+debugStateIn s state.HashDiffers = load.hashDiffers
+debugStateIn s (state.Unreadable e) = load.unreadable (debugFaultOf s e)
+debugStateIn s (state.Read c) = load.read (debugCountsIn c)

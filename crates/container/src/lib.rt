@@ -2,7 +2,7 @@
 ghost use mathlib.Core.Path.{_≡_};
 ghost use Prim.Native.Nat.{_≤_};
 ghost use lib.ListN.{length};
-ghost use Rattle.format.specs.Parts.{limit};
+ghost use Rattle.format.specs.Parts.{limit, cut};
 ghost use Rattle.format.specs.Load.{debugFound};
 ghost use Rattle.format.specs.Record.{debugCounts, readFrom, programRead};
 ghost use Rattle.base.specs.Digest.{digestBytes};
@@ -243,7 +243,7 @@ fn types_of(file: &[u8], header: FileHeader) -> TypesRead
 
 // The state of a debug section that lies in the file behind the header: by its hash, then by its reader.
 fn section_state(section: &[u8], debug_hash: Digest) -> DebugState
-    ensures { λ r. ⌜ debugStateIn r ≡ sectionState (digestBytes «debug_hash») (now (section .entry)) ⌝ }
+    ensures { λ r. ⌜ debugStateIn (now (section .entry)) r ≡ sectionState (digestBytes «debug_hash») (now (section .entry)) ⌝ }
 {
     if debug_hash_matches(debug_hash, section) {
         return match debug_tables::read_from(section) {
@@ -256,7 +256,7 @@ fn section_state(section: &[u8], debug_hash: Digest) -> DebugState
 
 // The state of a file's debug section: size, place, hash, then what its reader answers. The flag is not asked.
 pub fn debug_state(file: &[u8], header: FileHeader) -> DebugState
-    ensures { λ r. ⌜ debugStateIn r ≡ debugStateOf (now (file .entry)) (headerIn header) ⌝ }
+    ensures { λ r. ⌜ debugStateIn (cut (now (file .entry)) (headerIn header .directory .debug)) r ≡ debugStateOf (now (file .entry)) (headerIn header) ⌝ }
 {
     let debug = header.sections.debug_section;
     if debug.size == 0 {

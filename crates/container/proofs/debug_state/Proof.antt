@@ -4,6 +4,7 @@ use Prim.Native.Nat.{_+_, _≤_}
 use lib.ListN.{length}
 use denote.Ref.{now}
 use Rattle.header.specs.Answers.{headerIn}
+use Rattle.container.specs.Answers.{debugStateIn}
 use Rattle.container.proofs.Parts.{debug-empty, debug-outside, debug-inside}
 use borrow.Author.Needs.{needs}
 use Rattle.container.proofs.debug_state.Statement.{statement}
@@ -28,7 +29,7 @@ returns-2 c = debug-outside (now (c .before .before .before .before .before .bef
 returns-3 : tie.Need-returns-3
 returns-3 c =
     let a = c .before .before .before .before .before .before .before .before .before .before .args in
-    debug-inside (now (a .file)) (headerIn (a .header)) (c .before .before .before .before .before .before .if1 .left) (rw (c .before .before .before .p .given .1) at (c .before .before .before .before .before .section-part .ensures .0)) (c .section-state .ensures)
+    debug-inside (now (a .file)) (headerIn (a .header)) (λ s. debugStateIn s (c .section-state .result)) (c .before .before .before .before .before .before .if1 .left) (rw (c .before .before .before .p .given .1) at (c .before .before .before .before .before .section-part .ensures .0)) (c .section-state .ensures)
 
 pub debug-state-spec : {M : Type 1} → statement M
 debug-state-spec =

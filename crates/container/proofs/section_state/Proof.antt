@@ -12,12 +12,12 @@ use Rattle.container.proofs.section_state.Tie as tie
 returns : tie.Need-returns
 returns c =
     rw (sym (c .before .before .before .before .before .debug-hash-matches .ensures) ∙ c .before .before .before .before .if1 .taken)
-    (state-fault (debugTables byBytes (now (c .before .before .before .before .before .before .before .args .section))) (ap debugCountsFrom (sym (c .before .e .given .1)) ∙ c .before .before .before .read-from .ensures))
+    (state-fault (debugTables byBytes (now (c .before .before .before .before .before .before .before .args .section))) (ap (debugCountsFrom _) (sym (c .before .e .given .1)) ∙ c .before .before .before .read-from .ensures))
 
 returns-2 : tie.Need-returns-2
 returns-2 c =
     rw (sym (c .before .before .before .before .before .debug-hash-matches .ensures) ∙ c .before .before .before .before .if1 .taken)
-    (state-counted (debugTables byBytes (now (c .before .before .before .before .before .before .before .args .section))) (ap debugCountsFrom (sym (c .before .c .given .1)) ∙ c .before .before .before .read-from .ensures))
+    (state-counted (debugTables byBytes (now (c .before .before .before .before .before .before .before .args .section))) (ap (debugCountsFrom _) (sym (c .before .c .given .1)) ∙ c .before .before .before .read-from .ensures))
 
 returns-3 : tie.Need-returns-3
 returns-3 c = rw (sym (c .before .debug-hash-matches .ensures) ∙ c .if1 .left)
