@@ -1,4 +1,5 @@
 pub mod Answers
 pub mod Sections
+pub mod PlaceTold
 pub mod Independence
 pub mod Examples

@@ -14,6 +14,7 @@ ghost use Rattle.constant_pool.specs.Answers.{countFrom};
 ghost use Rattle.debug_tables.specs.Answers.{maybeDebug};
 ghost use Rattle.container.specs.Answers.{containerFrom, typesReadFrom, debugStateIn};
 ghost use Rattle.container.specs.Sections.{Accepted, taskCountsAt, typeCountsAt, typeCountsOf, constantCountAt, codeReadsAt, sectionState, debugStateOf};
+ghost use Rattle.container.specs.PlaceTold.{PlaceTold};
 ghost use Rattle.container.specs.Independence.{SameRun, DebugAlike};
 ghost use Rattle.container.specs.Examples.{Examples};
 use base::section::section_part;
@@ -89,6 +90,7 @@ pub use debug_section::StartsAnswer;
 pub use debug_section::StringLayoutAnswer;
 pub use debug_section::ValueAnswer;
 pub use debug_section::VariableAnswer;
+pub use debug_tables::BadPlace;
 pub use debug_tables::DebugCounts;
 pub use debug_tables::DebugTables;
 pub use debug_tables::MaybeDebug;
@@ -350,6 +352,11 @@ pub fn read_for_program(file: &[u8]) -> ContainerAnswer
     }
     read_from(file)
 }
+
+// The place of a bad text that `debug_state` tells is the one that the record's `bad_place` answers.
+pub fn place_told(file: &[u8], header: FileHeader)
+    ensures { λ _. ⌜ PlaceTold (now (file .entry)) (headerIn header) ⌝ }
+{}
 
 // Demand 3, for any two files. Empty bodies: each contract makes the checker prove a half of it.
 pub fn same_run(f: &[u8], g: &[u8])

@@ -34,15 +34,17 @@ module _ (s : List ℕ) where
   fault-place f e = stopped (length s) (debugTables byBytes s) f (standing.unreadable byBytes s f (sym e))
 
   -- a bad text has a byte left, so the bytes that are left give its place
-  pub placed : (e : DebugFault) → refused (debugFaultOf s e) ≡ itemOf (debugStarts s) → faultPlace e ≡ badPlace s
-  placed debugFault.Short h = sym (fault-place (debugFaultOf s debugFault.Short) h)
-  placed (debugFault.BadText p) h =
-      let k = fault-place (debugFaultOf s (debugFault.BadText p)) h in
+  pub told-place : (e : DebugFault) → badPlace s ≡ placeOf (length s) (debugFaultOf s e) → faultPlace e ≡ badPlace s
+  told-place debugFault.Short k = sym k
+  told-place (debugFault.BadText p) k =
       let b = bad-places s .has-place (length s - (length s - p)) k .text .bad in
       let i = b .within in
       let j = b .lies-whole in
       let z : p ≡ length s - (length s - p) = omega arith in
       ap some z ∙ sym k
+
+  pub placed : (e : DebugFault) → refused (debugFaultOf s e) ≡ itemOf (debugStarts s) → faultPlace e ≡ badPlace s
+  placed e h = told-place e (fault-place (debugFaultOf s e) h)
 
   pub not-bad : (u : DebugTables) → found u ≡ itemOf (debugStarts s) → none ≡ badPlace s
   unfolding badPlace

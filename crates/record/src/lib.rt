@@ -11,6 +11,8 @@ ghost use Rattle.type_section.specs.Answers.{fbTypeFrom, fieldFrom, arrayFrom, 
 ghost use Rattle.constant_pool.specs.Answers.{constFrom, ConstEnds, u32From, u64From, i32From, i64From, widthFrom};
 ghost use Rattle.code_section.specs.Answers.{funcFrom};
 ghost use Rattle.line_map.specs.Answers.{lineFrom};
+ghost use Rattle.requests.specs.BadPlace.{badPlaceOf};
+ghost use Rattle.debug_tables.specs.Answers.{badPlaceIn};
 ghost use Rattle.debug_section.specs.Answers.{startsFrom, variableFrom, functionNameFrom, layoutFrom, sourceFrom, enumerationFrom, valueFrom};
 ghost use Rattle.record.specs.Answers.{containerIn, enumerationWith};
 ghost use Rattle.record.specs.Absence.{absentFault};
@@ -36,6 +38,7 @@ use debug_section::StartsAnswer;
 use debug_section::StringLayoutAnswer;
 use debug_section::ValueAnswer;
 use debug_section::VariableAnswer;
+use debug_tables::BadPlace;
 use debug_tables::MaybeDebug;
 use header::FileHeader;
 use line_map::LineAnswer;
@@ -336,6 +339,14 @@ impl Container {
                 debug_section::tables(file, self.header.sections.debug_section)
             }
         }
+    }
+
+    // Which byte of a name or a path keeps the debug section from being read: the section's bad place, by the record's directory alone, so also of a
+    // record without debug.
+    pub fn bad_place(self, file: &[u8]) -> BadPlace
+        ensures { λ r. ⌜ badPlaceIn r ≡ badPlaceOf (now (file .entry)) (containerIn self) ⌝ }
+    {
+        debug_section::bad_place(file, self.header.sections.debug_section)
     }
 
     // The source location of a place in a function's bytecode.

@@ -381,17 +381,26 @@ module _ (hash : List ℕ → List ℕ) (f : List ℕ) (h : Header) where
       let q = h .directory .debug in
       length-part f (q .offset) (q .size) (leb-true (q .offset + q .size) (length f) (second-of (leb headerSize (q .offset)) (leb (q .offset + q .size) (length f)) i))
 
-  state-place : (e : Fault) → length f ≤ limit → debugState hash f h ≡ unreadable e → badPlaceAt f (h .directory .debug) ≡ placeOf (h .directory .debug .size) e
+  -- a section that size, place and hash admit and that does not read
+  pub record UnreadableAt (e : Fault) : Type 0 where
+    pub inside : badPlaceAt f (h .directory .debug) ≡ badPlace (cut f (h .directory .debug))
+    pub place : badPlace (cut f (h .directory .debug)) ≡ placeOf (length (cut f (h .directory .debug))) e
+    pub size : length (cut f (h .directory .debug)) ≡ h .directory .debug .size
+
+  pub unreadable-at : (e : Fault) → length f ≤ limit → debugState hash f h ≡ unreadable e → UnreadableAt e
   unfolding debugState badPlaceAt badPlace
-  state-place e l d = rw (le-leb (length f) limit l) (by (debugSized h) (debugInside f h) (debugHashRight hash f h) (debugTables byBytes (cut f (h .directory .debug))) refl d)
+  unreadable-at e l d = by (debugSized h) (debugInside f h) (debugHashRight hash f h) (debugTables byBytes (cut f (h .directory .debug))) refl refl d
     where
-      by : (a b c : Bool) (x : Read (Tables (List ℕ))) → isInside f (h .directory .debug) ≡ b → cond (not a) empty (cond (not b) outside (cond (not c) hashDiffers (stateOfRead x))) ≡ unreadable e
-          → cond b (placeRead (length (cut f (h .directory .debug))) x) none ≡ placeOf (h .directory .debug .size) e
-      by true true true (fault d) i s = let z : d ≡ e = cc in rw (inside-length i, z)
-      by true true true (got t rest) i s = absurd (let z : _≡_ {A = ℕ} 0 1 = cc in omega arith)
-      by true true false x i s = absurd (let z : _≡_ {A = ℕ} 0 1 = cc in omega arith)
-      by true false c x i s = absurd (let z : _≡_ {A = ℕ} 0 1 = cc in omega arith)
-      by false b c x i s = absurd (let z : _≡_ {A = ℕ} 0 1 = cc in omega arith)
+      by : (a b c : Bool) (x : Read (Tables (List ℕ))) → isInside f (h .directory .debug) ≡ b → debugTables byBytes (cut f (h .directory .debug)) ≡ x
+          → cond (not a) empty (cond (not b) outside (cond (not c) hashDiffers (stateOfRead x))) ≡ unreadable e → UnreadableAt e
+      by true true true (fault d) i r s = let z : d ≡ e = cc in record { inside = rw (le-leb (length f) limit l, i); place = rw (r, z); size = inside-length i }
+      by true true true (got t rest) i r s = absurd (let z : _≡_ {A = ℕ} 0 1 = cc in omega arith)
+      by true true false x i r s = absurd (let z : _≡_ {A = ℕ} 0 1 = cc in omega arith)
+      by true false c x i r s = absurd (let z : _≡_ {A = ℕ} 0 1 = cc in omega arith)
+      by false b c x i r s = absurd (let z : _≡_ {A = ℕ} 0 1 = cc in omega arith)
+
+  state-place : (e : Fault) → length f ≤ limit → debugState hash f h ≡ unreadable e → badPlaceAt f (h .directory .debug) ≡ placeOf (h .directory .debug .size) e
+  state-place e l d = let u = unreadable-at e l d in u .inside ∙ u .place ∙ ap (λ n. placeOf n e) (u .size)
 
 pub still-none : (hash : List ℕ → List ℕ) → StillNone hash
 still-none hash = record { debug-none = λ f l p e d. sym (facts hash f l e .debug) ∙ found-none hash f (l .header) p d; state-place = state-place hash }
