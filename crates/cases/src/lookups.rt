@@ -1,4 +1,4 @@
-// Lookups over a file and a record, each by its kind, and where walks start.
+// Lookups over a file and a record, each by its kind; where walks start; the debug section's bad place.
 use answer_numbers::Numbers;
 use answer_numbers::refusal;
 use base::id_types::ConstantIndex;
@@ -7,6 +7,8 @@ use base::section::StartAnswer;
 use case_files::index;
 use case_files::place_among;
 use case_files::print_answer;
+use case_files::print_number;
+use container::BadPlace;
 use container::Container;
 use container::ContainerAnswer;
 use debug_section::StartsAnswer;
@@ -32,10 +34,13 @@ use lookup_kinds::kinds::USER_FB;
 use lookup_kinds::kinds::VARIABLE;
 use programs::write;
 
-// The kind of a lookup by its word; the words are in the order of the kinds. Those of walks follow.
+// How many walks have a word.
+const WALK_COUNT: u16 = 8;
+
+// The kind of a lookup by its word; the words are in the order of the kinds. Those of walks follow, then that of the bad place.
 fn kind_of(line: &[u8]) -> u16 {
     place_among(
-        b"task program fb_type field array array_size user_fb constant i32 u32 i64 u64 f32 f64 str char_width function bytecode source_line line variable function_name string_layout source_file enumeration enumeration_value tasks: programs: fb_types: arrays: user_fbs: constants: functions: debug_tables:",
+        b"task program fb_type field array array_size user_fb constant i32 u32 i64 u64 f32 f64 str char_width function bytecode source_line line variable function_name string_layout source_file enumeration enumeration_value tasks: programs: fb_types: arrays: user_fbs: constants: functions: debug_tables: bad_place:",
         line,
     ) as u16
 }
@@ -141,15 +146,27 @@ fn shortened(c: Container, short_code: bool) -> Container {
     c
 }
 
-// The line's lookup or walk over a file and the record of another. An unknown word prints nothing.
+fn bad_place(c: Container, file: &[u8]) {
+    match c.bad_place(file) {
+        BadPlace::None => write(b" none"),
+        BadPlace::At(p) => print_number(p as u64),
+    }
+    write(b"\n");
+}
+
+// The line's lookup, walk or bad place over a file and the record of another. An unknown word prints nothing.
 fn ask(c: Container, file: &[u8], line: &[u8]) {
     let kind = kind_of(line);
     if kind < KIND_COUNT {
         lookup(c, file, kind, index(line, 1), index(line, 2));
         return;
     }
-    if kind < 255 {
+    if kind < KIND_COUNT + WALK_COUNT {
         walk(c, file, kind - KIND_COUNT);
+        return;
+    }
+    if kind == KIND_COUNT + WALK_COUNT {
+        bad_place(c, file);
     }
 }
 

@@ -28,8 +28,7 @@ InFile base s = base + length s < 2 ^ 64
 abbrev pub keepIn : ℕ → List ℕ → Keep Place
 keepIn base s = byPlace (record { offset = base; size = length s })
 
--- why the section `s` does not read: a bad text's place stands for how many bytes of it are left from there on. The fault stays inside the reader:
--- lookups answer 15 for a section that does not read
+-- why the section `s` does not read: a text's bad place, for how many bytes of the section are left from there on. Lookups in such a section answer 15
 abbrev pub debugFaultOf : List ℕ → DebugFault → Fault
 debugFaultOf s debugFault.Short = shortInput
 debugFaultOf s (debugFault.BadText p) = badText (length s - p)
