@@ -1,4 +1,4 @@
-//! The files: four shapes, made by the Rust's own writer, of a given length.
+//! The files: seven shapes, made by the Rust's own writer, of a given length.
 
 use ironplc_container::code_section::CodeSection;
 use ironplc_container::constant_pool::{ConstEntry, ConstantPool};
@@ -22,6 +22,8 @@ pub const TEXTS: &str = "names of 250 bytes";
 pub const TWO_BYTE_TEXTS: &str = "names of two-byte letters";
 pub const THREE_BYTE_TEXTS: &str = "names of three-byte letters";
 pub const MIXED_TEXTS: &str = "names of mixed letters";
+pub const BAD_TEXTS: &str = "names of 250 bytes, the last byte bad";
+pub const BAD_MIXED_TEXTS: &str = "names of mixed letters, the last byte bad";
 
 const FUNCTIONS: usize = 2;
 const BYTECODE: usize = 96;
@@ -268,4 +270,17 @@ pub fn unhashed(file: &File) -> File {
     bytes[CONTENT_HASH_RANGE].fill(0);
     bytes[DEBUG_HASH_RANGE].fill(0);
     File { shape: file.shape, bytes }
+}
+
+/// The file with the last byte of its debug section, which is a name's, no longer UTF-8; none for a shape without such names.
+pub fn unreadable(file: &File) -> Option<File> {
+    let shape = match file.shape {
+        TEXTS => BAD_TEXTS,
+        MIXED_TEXTS => BAD_MIXED_TEXTS,
+        _ => return None,
+    };
+    let header = FileHeader::from_bytes(file.bytes[..256].try_into().expect("a header")).expect("a header");
+    let mut bytes = file.bytes.clone();
+    bytes[(header.debug_section_offset + header.debug_section_size - 1) as usize] = 0xE9;
+    Some(File { shape, bytes })
 }

@@ -159,7 +159,7 @@ pub enum DebugState {
     Outside,
     // The header's debug hash is neither zero nor the section's.
     HashDiffers,
-    // Why it does not read.
+    // Why it does not read: it ends too early, or the place in it of a text's first bad byte.
     Unreadable(DebugFault),
     // How many entries its tables in force have.
     Read(DebugCounts),
