@@ -9,7 +9,7 @@ use borrow.Author.Tests.{ne-eqb}
 use Rattle.utf8.specs.Utf8.{validUpTo, utf8}
 use Rattle.reading.specs.Fault.{shortInput, badText}
 use Rattle.reading.specs.Numbers.{leAt}
-use Rattle.reading.specs.Reader.{Reader, fault}
+use Rattle.reading.specs.Reader.{Reader}
 use Rattle.reading.specs.Places.{Step, stops, item, stepGiven, stepAt}
 use Rattle.reading.proofs.Parts.{length-part}
 use Rattle.reading.proofs.Width.{Needs, needs-at}
@@ -17,7 +17,7 @@ use Rattle.format.specs.Parts.{Place}
 use Rattle.format.specs.Debug.{text, name, path}
 use Rattle.requests.specs.BadPlace.{BadAt}
 use Rattle.debug_text.specs.Answers.{keepIn, textStep}
-use Rattle.debug_text.specs.Laws.{badAt, short, Places, Laws}
+use Rattle.debug_text.specs.Laws.{badAt, short, Laws}
 use Rattle.debug_text.proofs.Texts as texts
 
 bad-left : {m n : ℕ} → _≡_ {A = Step Place} (stops (badText m)) (stops (badText n)) → m ≡ n

@@ -9,23 +9,23 @@ use mathlib.Core.Option.{Option, none, some}
 use lib.Dec.{leb}
 use lib.ListN.{length, take, drop, length-drop, length-append}
 use lib.Seq.{take-at, length-take-le}
-use borrow.Author.Tests.{leb-true, le-leb, lt-leb, eq-eqb}
+use borrow.Author.Tests.{le-leb, lt-leb, eq-eqb}
 use Rattle.utf8.specs.Utf8.{validAfter, validUpTo, sequenceAt, utf8}
 use Rattle.utf8.proofs.Longest.{laws}
 use Rattle.reading.specs.Fault.{Fault, refusal, badText, shortInput}
 use Rattle.reading.specs.Numbers.{le, leAt}
 use Rattle.reading.specs.Reader.{Read, fault, got, Reader, next, _>>=_, give, bytes, number, many, counted}
-use Rattle.reading.specs.Answer.{found}
 use Rattle.reading.proofs.Reading.{never, bytes-at, bytes-short, number-at}
 use Rattle.reading.proofs.Parts.{length-part, part-of-front}
-use Rattle.format.specs.Parts.{limit, headerSize, Place, cut, isInside, byBytes}
+use Rattle.format.specs.Parts.{limit, Place, cut, isInside, byBytes}
 use Rattle.format.specs.Header.{Header}
 use Rattle.format.specs.Debug.{text, name, path, line, variable, functionName, stringLayout, sourceFile, enumeration, Row, tagOf, sizeOf, kindOf, payloadOf, Tables, put, tablesOf, noTables, rowsOf, debugTables}
 use Rattle.format.specs.Debug.{Kind, lines, variables, functions, strings, files, enumerations, unknown, payload}
-use Rattle.format.specs.Load.{Loaded, load, readable, debugSized, debugInside, debugHashRight, debugOf, debugFound, DebugState, empty, outside, hashDiffers, unreadable, stateOfRead, debugState}
-use Rattle.format.proofs.Answers.{absent, same-some, second-of}
+use Rattle.format.specs.Load.{readable, debugSized, debugInside, debugHashRight, debugOf, debugFound, empty, outside, hashDiffers, unreadable, stateOfRead, debugState}
+use Rattle.format.proofs.Answers.{absent, same-some}
+use Rattle.format.proofs.Places.{length-cut}
 use Rattle.format.proofs.Loads.{facts}
-use Rattle.requests.specs.BadPlace.{placeOf, placeRead, badPlace, badPlaceAt, badPlaceOf, Announced, BadText, FirstFault, BadPlaces, BadPlacesInFiles, StillNone, BadPlaceExamples}
+use Rattle.requests.specs.BadPlace.{placeOf, placeRead, badPlace, badPlaceAt, Announced, BadText, FirstFault, BadPlaces, BadPlacesInFiles, StillNone, BadPlaceExamples}
 use Rattle.requests.specs.BadPlace as of
 
 -- Reading stops in one way
@@ -375,12 +375,6 @@ module _ (hash : List ℕ → List ℕ) (f : List ℕ) (h : Header) where
       by true = refl
       by false = refl
 
-  inside-length : isInside f (h .directory .debug) ≡ true → length (cut f (h .directory .debug)) ≡ h .directory .debug .size
-  unfolding isInside
-  inside-length i =
-      let q = h .directory .debug in
-      length-part f (q .offset) (q .size) (leb-true (q .offset + q .size) (length f) (second-of (leb headerSize (q .offset)) (leb (q .offset + q .size) (length f)) i))
-
   -- a section that size, place and hash admit and that does not read
   pub record UnreadableAt (e : Fault) : Type 0 where
     pub inside : badPlaceAt f (h .directory .debug) ≡ badPlace (cut f (h .directory .debug))
@@ -393,7 +387,7 @@ module _ (hash : List ℕ → List ℕ) (f : List ℕ) (h : Header) where
     where
       by : (a b c : Bool) (x : Read (Tables (List ℕ))) → isInside f (h .directory .debug) ≡ b → debugTables byBytes (cut f (h .directory .debug)) ≡ x
           → cond (not a) empty (cond (not b) outside (cond (not c) hashDiffers (stateOfRead x))) ≡ unreadable e → UnreadableAt e
-      by true true true (fault d) i r s = let z : d ≡ e = cc in record { inside = rw (le-leb (length f) limit l, i); place = rw (r, z); size = inside-length i }
+      by true true true (fault d) i r s = let z : d ≡ e = cc in record { inside = rw (le-leb (length f) limit l, i); place = rw (r, z); size = length-cut f (h .directory .debug) i }
       by true true true (got t rest) i r s = absurd (let z : _≡_ {A = ℕ} 0 1 = cc in omega arith)
       by true true false x i r s = absurd (let z : _≡_ {A = ℕ} 0 1 = cc in omega arith)
       by true false c x i r s = absurd (let z : _≡_ {A = ℕ} 0 1 = cc in omega arith)

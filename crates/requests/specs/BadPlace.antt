@@ -16,7 +16,7 @@ use Rattle.reading.specs.Answer.{found}
 use Rattle.format.specs.Parts.{limit, part, Place, cut, isInside, byBytes}
 use Rattle.format.specs.Header.{Header}
 use Rattle.format.specs.Debug.{Tables, debugTables}
-use Rattle.format.specs.Load.{Loaded, load, debugFound, debugState, unreadable}
+use Rattle.format.specs.Load.{Loaded, load, debugState, unreadable}
 use Rattle.format.specs.Record.{Container}
 
 -- The place that a fault tells, counted from the start of a section of `whole` bytes: that of the first bad byte. A reader knows only how many
@@ -25,6 +25,7 @@ abbrev pub placeOf : ℕ → Fault → Option ℕ
 placeOf whole (refusal n vs) = none
 placeOf whole (badText left) = some (whole - left)
 
+-- and of what reading a section gave: none where it reads
 abbrev pub placeRead : {A : Type 0} → ℕ → Read A → Option ℕ
 placeRead whole (fault f) = placeOf whole f
 placeRead whole (got a rest) = none
@@ -55,19 +56,19 @@ pub record BadAt (s : List ℕ) (at size p : ℕ) : Type 0 where
   pub place : p ≡ at + validUpTo (part at size s)
   pub within : p < at + size
 
--- such a text is announced somewhere in the section
+-- a name or a path of the section that is such a text
 pub record BadText (s : List ℕ) (p : ℕ) : Type 0 where
   pub at : ℕ
   pub size : ℕ
   pub announced : Announced s at size
   pub bad : BadAt s at size p
 
--- and is the section's first fault
+-- which is the section's first fault in file order
 pub record FirstFault (s : List ℕ) (p : ℕ) : Type 0 where
   pub text : BadText s p
-  -- in front of the text's end there is no other: a section that ends there just ends too early
+  -- there is none in front of the text's end: a section that ends earlier just ends too early
   pub first : (k : ℕ) → k < text .at + text .size → debugTables byBytes (take k s) ≡ fault shortInput
-  -- and the place does not depend on what follows the text
+  -- the place does not depend on what follows the text
   pub whatever-follows : (t : List ℕ) → badPlace (take (text .at + text .size) s ++ t) ≡ some p
 
 pub record BadPlaces (s : List ℕ) : Type 0 where
@@ -84,14 +85,14 @@ pub record BadPlacesInFiles : Type 0 where
   -- records that name the same debug section have the same place in it
   pub directory-alone : (f : List ℕ) (r q : Container) → r .header .directory .debug ≡ q .header .directory .debug → badPlaceOf f r ≡ badPlaceOf f q
 
--- "Loading as such is unchanged: debug is still none." Nothing of document 01's definitions, in the crate format, moved
+-- "Loading as such is unchanged: debug is still none": `load` is document 01's, in the crate format
 pub record StillNone (hash : List ℕ → List ℕ) : Type 0 where
   pub debug-none : (f : List ℕ) (l : Loaded) (p : ℕ) → load hash f ≡ found l → badPlaceAt f (l .header .directory .debug) ≡ some p → l .debug ≡ none
   -- of a section that size, place and hash admit and that does not read, the place is that of its fault
   pub state-place : (f : List ℕ) (h : Header) (e : Fault) → length f ≤ limit → debugState hash f h ≡ unreadable e
       → badPlaceAt f (h .directory .debug) ≡ placeOf (h .directory .debug .size) e
 
--- Examples: sections with rows of these tags, in front of their payloads
+-- Examples: sections of one or two tables, which have the row count, the rows with their tags, then the payloads
 
 abbrev pub rowOf : ℕ → List ℕ
 rowOf tag = tag ∷ 0 ∷ 0 ∷ 0 ∷ 0 ∷ 0 ∷ 0 ∷ 0 ∷ []
