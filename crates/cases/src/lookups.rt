@@ -1,4 +1,4 @@
-// Lookups over a file and a record, each by its kind; where walks start; the debug section's bad place.
+// Lookups over a file and a record, each by its kind; where walks start; the debug section's bad place and state.
 use answer_numbers::Numbers;
 use answer_numbers::refusal;
 use base::id_types::ConstantIndex;
@@ -11,6 +11,8 @@ use case_files::print_number;
 use container::BadPlace;
 use container::Container;
 use container::ContainerAnswer;
+use container::DebugFault;
+use container::DebugState;
 use debug_section::StartsAnswer;
 use lookup_kinds::kinds::ARRAY;
 use lookup_kinds::kinds::BYTECODE;
@@ -37,10 +39,10 @@ use programs::write;
 // How many walks have a word.
 const WALK_COUNT: u16 = 8;
 
-// The kind of a lookup by its word; the words are in the order of the kinds. Those of walks follow, then that of the bad place.
+// The kind of a lookup by its word; the words are in the order of the kinds. Those of walks follow, then those of the bad place and of the state.
 fn kind_of(line: &[u8]) -> u16 {
     place_among(
-        b"task program fb_type field array array_size user_fb constant i32 u32 i64 u64 f32 f64 str char_width function bytecode source_line line variable function_name string_layout source_file enumeration enumeration_value tasks: programs: fb_types: arrays: user_fbs: constants: functions: debug_tables: bad_place:",
+        b"task program fb_type field array array_size user_fb constant i32 u32 i64 u64 f32 f64 str char_width function bytecode source_line line variable function_name string_layout source_file enumeration enumeration_value tasks: programs: fb_types: arrays: user_fbs: constants: functions: debug_tables: bad_place: debug_state:",
         line,
     ) as u16
 }
@@ -154,7 +156,28 @@ fn bad_place(c: Container, file: &[u8]) {
     write(b"\n");
 }
 
-// The line's lookup, walk or bad place over a file and the record of another. An unknown word prints nothing.
+fn unreadable(fault: DebugFault) {
+    match fault {
+        DebugFault::Short => write(b" ends too early"),
+        DebugFault::BadText(p) => {
+            write(b" bad at");
+            print_number(p as u64);
+        }
+    }
+}
+
+fn debug_state(c: Container, file: &[u8]) {
+    match container::debug_state(file, c.header) {
+        DebugState::Empty => write(b" empty"),
+        DebugState::Outside => write(b" outside"),
+        DebugState::HashDiffers => write(b" hash differs"),
+        DebugState::Unreadable(e) => unreadable(e),
+        DebugState::Read(_) => write(b" read"),
+    }
+    write(b"\n");
+}
+
+// The line's lookup, walk, bad place or state over a file and the record of another. An unknown word prints nothing.
 fn ask(c: Container, file: &[u8], line: &[u8]) {
     let kind = kind_of(line);
     if kind < KIND_COUNT {
@@ -167,6 +190,9 @@ fn ask(c: Container, file: &[u8], line: &[u8]) {
     }
     if kind == KIND_COUNT + WALK_COUNT {
         bad_place(c, file);
+    }
+    if kind == KIND_COUNT + WALK_COUNT + 1 {
+        debug_state(c, file);
     }
 }
 

@@ -28,6 +28,7 @@ use Rattle.debug_text.proofs.Texts.{name-ends}
 use Rattle.debug_text.proofs.Walks.{picked-is}
 use Rattle.debug_entries.specs.Answers.{entryOf}
 use Rattle.debug_entries.specs.Laws.{Lies, Walkable, VariableLies, FunctionLies, FileLies, EnumerationLies, Laws}
+use Rattle.debug_entries.proofs.Places as places
 
 module _ (whole : List ℕ) where
   record Gives {A : Type 0} (P : A → Type 0) (r : Reader A) : Type 0 where
@@ -177,6 +178,10 @@ module _ (whole : List ℕ) where
 pub laws : Laws
 laws =
     record {
+      variable-placed = λ base s. places.variable-placed s base;
+      function-name-placed = λ base s. places.function-name-placed s base;
+      source-file-placed = λ base s. places.source-file-placed s base;
+      enumeration-placed = λ base s. places.enumeration-placed s base;
       names = λ base s. walkable s _ _ (gives-name s base);
       variables = λ base s. walkable s _ _ (gives-variable s base);
       functions = λ base s. walkable s _ _ (gives-function s base);

@@ -1,19 +1,21 @@
 -- The claims on every table of the section `s` at `base`: a walk over it, step by step, gives what reading it gives; where it reads, a lookup in it
--- is indexing into its entries; and the names and paths that a lookup or a step gives lie in the section.
+-- is indexing into its entries; and the names and paths that a lookup or a step gives lie in the section. A bad text is told by its place.
 use Prim.Native.Nat.{ℕ, _+_, _≤_}
 use mathlib.Core.Path.{_≡_}
 use mathlib.Core.List.{List}
 use lib.ListN.{length}
 use Rattle.reading.specs.Reader.{Reader, got}
 use Rattle.reading.specs.Answer.{found, itemOf, indexed}
-use Rattle.reading.specs.Places.{leftOf, Holds, entry, stepOf, walked}
+use Rattle.reading.specs.Places.{stops, stepAt, leftOf, Holds, entry, stepOf, walked}
 use Rattle.reading.specs.declared.Table.{Table}
 use Rattle.format.specs.Faults.{noEntry}
 use Rattle.format.specs.Parts.{Place}
 use Rattle.format.specs.Debug.{name, Variable, variable, FunctionName, functionName, stringLayout, SourceFile, sourceFile, Enumeration, enumeration}
-use Rattle.debug_text.specs.Answers.{keepIn}
+use Rattle.requests.specs.BadPlace.{BadText}
+use Rattle.debug_text.specs.Answers.{keepIn, debugFaultOf}
+use Rattle.debug_text.specs.declared.DebugFault.the-variants as debugFault
 use Rattle.debug_text.specs.Picked.{picked}
-use Rattle.debug_entries.specs.Answers.{entryOf}
+use Rattle.debug_entries.specs.Answers.{entryOf, enumerationEntry}
 
 -- a part of the file that lies in the section
 pub record Lies (base : ℕ) (s : List ℕ) (p : Place) : Type 0 where
@@ -43,7 +45,15 @@ module _ (base : ℕ) (s : List ℕ) where
       Lies base s (e .named) × ((j : ℕ) (p : Place) → indexed noEntry (e .values) j ≡ found p → Lies base s p)
       × Holds (name (keepIn base s)) s (entryOf base e .values) (e .values)
 
+-- Document 02, slip 1: whatever meets the contract of a reader of entries and tells a bad text tells the place of a text's first bad byte
+abbrev pub Placed : {A : Type 0} → Reader A → List ℕ → Type 0
+Placed r s = (at p : ℕ) → at ≤ length s → stops (debugFaultOf s (debugFault.BadText p)) ≡ stepAt r s at → BadText s p
+
 pub record Laws : Type 0 where
+  pub variable-placed : (base : ℕ) (s : List ℕ) → Placed (variable (keepIn base s)) s
+  pub function-name-placed : (base : ℕ) (s : List ℕ) → Placed (functionName (keepIn base s)) s
+  pub source-file-placed : (base : ℕ) (s : List ℕ) → Placed (sourceFile (keepIn base s)) s
+  pub enumeration-placed : (base : ℕ) (s : List ℕ) → Placed (enumerationEntry base (keepIn base s)) s
   pub names : (base : ℕ) (s : List ℕ) → Walkable (Lies base s) (name (keepIn base s)) s
   pub variables : (base : ℕ) (s : List ℕ) → Walkable (VariableLies base s) (variable (keepIn base s)) s
   pub functions : (base : ℕ) (s : List ℕ) → Walkable (FunctionLies base s) (functionName (keepIn base s)) s

@@ -22,6 +22,7 @@ use Rattle.format.specs.Debug.{Payload, ofLines, ofVariables, ofFunctions, ofSt
 use Rattle.format.proofs.Keeping.{onEnumeration, Alike, stops, gives, Same, same-many, same-variable, same-functionName, same-sourceFile, same-enumeration}
 use Rattle.format.proofs.Readers.{local-line, local-stringLayout}
 use Rattle.debug_entries.proofs.Entries.{stays-variable, stays-function, stays-file, stays-enumeration}
+use Rattle.debug_entries.proofs.Places.{alike-stops, none-kept}
 use Rattle.debug_tables.specs.Starts.{nowhere, behindCount, entriesAt, aside, payloadStart, isListed, entriesOf}
 use Rattle.debug_tables.specs.Answers.{kindIn}
 use Rattle.debug_tables.specs.declared.TableKind.{TableKind}
@@ -36,10 +37,6 @@ pub of-kind : (n : ℕ) (s : List ℕ) (at : ℕ) (w : Way) {k v : TableKind} �
 of-kind n s at w e g = subst (λ (x : TableKind). Goes (entriesOf (kindIn x) n) s at w) (sym e) g
 
 -- whatever is kept of names and paths, the same entries are skipped
-alike-stops : {A B : Type 0} (s : List ℕ) (m : B → A) {x : Read A} {y : Read B} (f : Fault) → Alike s m x y → y ≡ fault f → x ≡ fault f
-alike-stops s m f (stops d) e = cc
-alike-stops s m f (gives b t w) e = never (sym e)
-
 alike-gives : {A B : Type 0} (s : List ℕ) (m : B → A) {x : Read A} {y : Read B} (b : B) (t : List ℕ) → Alike s m x y → y ≡ got b t → x ≡ got (m b) t
 alike-gives s m b t (stops d) e = never e
 alike-gives s m b t (gives c u w) e =
@@ -50,9 +47,6 @@ alike-gives s m b t (gives c u w) e =
 goes-same : {A B : Type 0} (s : List ℕ) (m : B → A) (r : Reader A) (q : Reader B) → Same s m r q → (at : ℕ) → at ≤ length s → (w : Way) → Goes q s at w → Goes r s at w
 goes-same s m r q h at l (stopsBy f) g = alike-stops s m f (h (drop at s) (record { behind = at; most = l; is = refl })) g
 goes-same s m r q h at l (onTo p) g = (g .0, (m (g .1 .0), alike-gives s m (g .1 .0) (drop p s) (h (drop at s) (record { behind = at; most = l; is = refl })) (g .1 .1)))
-
-abbrev pub none-kept : {T : Type 0} → T → Unit {0}
-none-kept a = tt
 
 module _ {T : Type 0} (keep : Keep T) (s : List ℕ) (n at : ℕ) (h : at ≤ length s) (w : Way) where
   aside-goes : {A B : Type 0} (m : B → A) (r : Reader A) (q : Reader B) → Same s m r q → Goes (many n q) s at w → Goes (many n r) s at w

@@ -21,7 +21,7 @@ use Rattle.format.proofs.Keeping.{onPayload, Alike, stops, gives, same-row}
 use Rattle.debug_tables.specs.Starts.{nowhere, noStarts, behindCount, entriesAt, aside, putAs, debugStartsOf, debugStarts}
 use Rattle.debug_tables.specs.Laws.{Standing, DebugReadable}
 use Rattle.debug_tables.specs.declared.DebugTables.{DebugTables}
-use Rattle.debug_tables.proofs.Payloads.{none-kept}
+use Rattle.debug_entries.proofs.Places.{none-kept}
 
 module _ {T : Type 0} (keep : Keep T) (s : List ℕ) where
   holds-none : {A : Type 0} (r : Reader A) → Holds r s nowhere []

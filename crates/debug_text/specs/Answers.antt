@@ -28,7 +28,8 @@ InFile base s = base + length s < 2 ^ 64
 abbrev pub keepIn : ℕ → List ℕ → Keep Place
 keepIn base s = byPlace (record { offset = base; size = length s })
 
--- why the section `s` does not read: a text's bad place, for how many bytes of the section are left from there on. Lookups in such a section answer 15
+-- Why the section `s` does not read. The code tells a bad text by its place in the section, the definitions by how many bytes are left from there
+-- on. Lookups in such a section answer 15
 abbrev pub debugFaultOf : List ℕ → DebugFault → Fault
 debugFaultOf s debugFault.Short = shortInput
 debugFaultOf s (debugFault.BadText p) = badText (length s - p)

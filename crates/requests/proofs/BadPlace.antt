@@ -10,7 +10,7 @@ use lib.Dec.{leb}
 use lib.ListN.{length, take, drop, length-drop, length-append}
 use lib.Seq.{take-at, length-take-le}
 use borrow.Author.Tests.{le-leb, lt-leb, eq-eqb}
-use Rattle.utf8.specs.Utf8.{validAfter, validUpTo, sequenceAt, utf8}
+use Rattle.utf8.specs.Utf8.{validUpTo, utf8}
 use Rattle.utf8.proofs.Longest.{laws}
 use Rattle.reading.specs.Fault.{Fault, refusal, badText, shortInput}
 use Rattle.reading.specs.Numbers.{le, leAt}
@@ -25,7 +25,7 @@ use Rattle.format.specs.Load.{readable, debugSized, debugInside, debugHashRight
 use Rattle.format.proofs.Answers.{absent, same-some}
 use Rattle.format.proofs.Places.{length-cut}
 use Rattle.format.proofs.Loads.{facts}
-use Rattle.requests.specs.BadPlace.{placeOf, placeRead, badPlace, badPlaceAt, Announced, BadText, FirstFault, BadPlaces, BadPlacesInFiles, StillNone, BadPlaceExamples}
+use Rattle.requests.specs.BadPlace.{placeOf, placeRead, badPlace, badPlaceAt, Announced, BadText, FirstFault, BadPlaces, BadPlacesInFiles, StillNone}
 use Rattle.requests.specs.BadPlace as of
 
 -- Reading stops in one way
@@ -253,6 +253,30 @@ module _ (w : List ℕ) where
   unfolding enumeration
   tells-enumeration = tells-then (name byBytes) _ tells-name λ n. tells-then (counted (name byBytes)) _ (tells-counted (name byBytes) tells-name) λ vs. tells-give _
 
+  -- where such an entry stops at a bad text, its place is told
+  abbrev pub Placed : {A : Type 0} → Reader A → Type 0
+  Placed r = (at left : ℕ) → at ≤ length w → r (drop at w) ≡ fault (badText left) → BadText w (length w - left)
+
+  placed : {A : Type 0} (r : Reader A) → Tells r → Placed r
+  placed {A} r h at left i e = by (r (drop at w)) (h at i) e
+    where
+      by : (x : Read A) → Told at x (λ k. seen k at (r (drop at (take k w)))) → x ≡ fault (badText left) → BadText w (length w - left)
+      by (fault (refusal n vs)) (d, g) e = short-bad (ap fault (sym d) ∙ e)
+      by (fault (badText m)) (b, g) e = let z : m ≡ left = same-bad e in rw z at b
+      by (got a rest) d e = never (sym e)
+
+  pub placed-variable : Placed (variable byBytes)
+  placed-variable = placed (variable byBytes) tells-variable
+
+  pub placed-functionName : Placed (functionName byBytes)
+  placed-functionName = placed (functionName byBytes) tells-functionName
+
+  pub placed-sourceFile : Placed (sourceFile byBytes)
+  placed-sourceFile = placed (sourceFile byBytes) tells-sourceFile
+
+  pub placed-enumeration : Placed (enumeration byBytes)
+  placed-enumeration = placed (enumeration byBytes) tells-enumeration
+
   -- The section
 
   tells-payload : (kind : Kind) (size : ℕ) → Tells (payload byBytes kind size)
@@ -341,7 +365,7 @@ bad-places-in-files =
       over-limit = λ f p h. rw (lt-leb (length f) limit h);
       outside = λ f p i. rw i (by (leb (length f) limit) (badPlace (cut f p)));
       section = λ f p h i. rw (le-leb (length f) limit h, i);
-      directory-alone = λ f r q e. ap (badPlaceAt f) e;
+      of-record = λ f r. refl;
     }
   where
     by : (z : Bool) (x : Option ℕ) → cond (z && false) x none ≡ none
@@ -398,23 +422,3 @@ module _ (hash : List ℕ → List ℕ) (f : List ℕ) (h : Header) where
 
 pub still-none : (hash : List ℕ → List ℕ) → StillNone hash
 still-none hash = record { debug-none = λ f l p e d. sym (facts hash f l e .debug) ∙ found-none hash f (l .header) p d; state-place = state-place hash }
-
--- Examples, by computing
-
-pub bad-place-examples : BadPlaceExamples
-unfolding badPlace debugTables rowsOf bytes le payloadOf tagOf sizeOf kindOf variable functionName sourceFile enumeration name path text utf8 validUpTo validAfter sequenceAt
-bad-place-examples =
-    record {
-      latin-1 = refl;
-      cut-sequence = refl;
-      cut-name = refl;
-      empty-name = refl;
-      long-path = refl;
-      value-name = refl;
-      type-name = refl;
-      replaced = refl;
-      first-of-two = refl;
-      missing-table = refl;
-      missing-row = refl;
-      other-tag = refl;
-    }

@@ -1,2 +1,3 @@
 pub mod BadPlace
+pub mod BadPlaceExamples
 pub mod Claims

@@ -12,12 +12,13 @@ use Rattle.utf8.specs.Utf8.{validUpTo, utf8}
 use Rattle.reading.specs.Fault.{Fault, refusal, badText, shortInput}
 use Rattle.reading.specs.Numbers.{leAt}
 use Rattle.reading.specs.Reader.{Read, fault, got}
-use Rattle.reading.specs.Answer.{found}
+use Rattle.reading.specs.Answer.{found, _>>=_}
 use Rattle.format.specs.Parts.{limit, part, Place, cut, isInside, byBytes}
 use Rattle.format.specs.Header.{Header}
 use Rattle.format.specs.Debug.{Tables, debugTables}
 use Rattle.format.specs.Load.{Loaded, load, debugState, unreadable}
-use Rattle.format.specs.Record.{Container}
+use Rattle.format.specs.Record.{Container, readFrom}
+use Rattle.format.specs.Examples.{millWith}
 
 -- The place that a fault tells, counted from the start of a section of `whole` bytes: that of the first bad byte. A reader knows only how many
 -- bytes are left, so that is what the fault has. A section that ends before an announced item has no bad place
@@ -82,8 +83,8 @@ pub record BadPlacesInFiles : Type 0 where
   pub over-limit : (f : List ℕ) (p : Place) → limit < length f → badPlaceAt f p ≡ none
   pub outside : (f : List ℕ) (p : Place) → isInside f p ≡ false → badPlaceAt f p ≡ none
   pub section : (f : List ℕ) (p : Place) → length f ≤ limit → isInside f p ≡ true → badPlaceAt f p ≡ badPlace (cut f p)
-  -- records that name the same debug section have the same place in it
-  pub directory-alone : (f : List ℕ) (r q : Container) → r .header .directory .debug ≡ q .header .directory .debug → badPlaceOf f r ≡ badPlaceOf f q
+  -- by the record's directory alone
+  pub of-record : (f : List ℕ) (r : Container) → badPlaceOf f r ≡ badPlaceAt f (r .header .directory .debug)
 
 -- "Loading as such is unchanged: debug is still none": `load` is document 01's, in the crate format
 pub record StillNone (hash : List ℕ → List ℕ) : Type 0 where
@@ -92,7 +93,9 @@ pub record StillNone (hash : List ℕ → List ℕ) : Type 0 where
   pub state-place : (f : List ℕ) (h : Header) (e : Fault) → length f ≤ limit → debugState hash f h ≡ unreadable e
       → badPlaceAt f (h .directory .debug) ≡ placeOf (h .directory .debug .size) e
 
--- Examples: sections of one or two tables, which have the row count, the rows with their tags, then the payloads
+-- Examples
+
+-- sections of one or two tables, which have the row count, the rows with their tags, then the payloads
 
 abbrev pub rowOf : ℕ → List ℕ
 rowOf tag = tag ∷ 0 ∷ 0 ∷ 0 ∷ 0 ∷ 0 ∷ 0 ∷ 0 ∷ []
@@ -130,3 +133,11 @@ pub record BadPlaceExamples : Type 0 where
   pub missing-row : badPlace (2 ∷ 0 ∷ rowOf 3) ≡ none
   -- the bytes of a table with another tag are not looked at
   pub other-tag : badPlace (1 ∷ 0 ∷ 7 ∷ 0 ∷ 0 ∷ 0 ∷ 2 ∷ 0 ∷ 0 ∷ 0 ∷ 1 ∷ 0xE9 ∷ []) ≡ none
+
+-- M with the Latin-1 name for its function in place of its lines: it loads without debug, and over it and its record the place is told
+abbrev pub millLatin1 : List ℕ
+millLatin1 = millWith 6 0 (oneTable 3 (oneName 2 (0x41 ∷ 0xE9 ∷ [])))
+
+pub record LoadedExample (hash : List ℕ → List ℕ) : Type 0 where
+  pub no-debug : (readFrom hash millLatin1 >>= λ r. found (r .debug)) ≡ found none
+  pub place : (readFrom hash millLatin1 >>= λ r. found (badPlaceOf millLatin1 r)) ≡ found (some 16)
