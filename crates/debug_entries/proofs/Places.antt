@@ -16,6 +16,7 @@ use Rattle.format.proofs.Keeping.{Alike, stops, gives, Same, onEnumeration, sam
 use Rattle.requests.specs.BadPlace.{BadText}
 use Rattle.requests.proofs.BadPlace as bad
 use Rattle.debug_text.specs.Answers.{keepIn}
+use Rattle.debug_text.proofs.Places.{left-place}
 use Rattle.debug_entries.specs.Answers.{entryOf, enumerationEntry}
 use Rattle.debug_entries.specs.Laws.{Placed}
 
@@ -51,13 +52,8 @@ module _ (s : List ℕ) where
       by (fault d) e = let z : d ≡ f = cc in ap fault z
       by (got a rest) e = absurd (let z : _≡_ {A = ℕ} 0 1 = cc in omega arith)
 
-  -- the place, from the bytes that are left: a bad text has one at least
   told : (p : ℕ) → BadText s (length s - (length s - p)) → BadText s p
-  told p b =
-      let i = b .bad .within in
-      let j = b .bad .lies-whole in
-      let z : length s - (length s - p) ≡ p = omega arith in
-      rw z at b
+  told p b = rw (left-place s p b) at b
 
   placed-by : {A B C : Type 0} (m : B → A) (n : C → A) (r : Reader A) (q : Reader B) (t : Reader C) → Same s m r q → Same s n r t → bad.Placed s t → Placed q s
   placed-by m n r q t h g k at p i e = told p (k at (length s - p) i (both-stop m n r q t h g at (badText (length s - p)) (stopped q at (badText (length s - p)) e)))

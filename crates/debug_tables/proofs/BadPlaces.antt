@@ -3,7 +3,6 @@ use mathlib.Core.Path.{_≡_, refl, sym, ap, _∙_}
 use mathlib.Core.List.{List}
 use mathlib.Core.Option.{none, some}
 use Prim.Native.Nat.{ℕ, _-_}
-use native.Mathlib.Omega.{arith}
 use lib.ListN.{length}
 use Rattle.reading.specs.Fault.{Fault}
 use Rattle.reading.specs.Reader.{Read, fault, got}
@@ -14,6 +13,7 @@ use Rattle.format.proofs.Answers.{never}
 use Rattle.requests.specs.BadPlace.{placeOf, placeRead, badPlace}
 use Rattle.requests.proofs.BadPlace.{bad-places}
 use Rattle.debug_text.specs.Answers.{debugFaultOf, faultPlace}
+use Rattle.debug_text.proofs.Places.{left-place}
 use Rattle.debug_text.specs.declared.DebugFault.{DebugFault}
 use Rattle.debug_text.specs.declared.DebugFault.the-variants as debugFault
 use Rattle.debug_tables.specs.Starts.{debugStarts}
@@ -33,15 +33,9 @@ module _ (s : List ℕ) where
   unfolding badPlace
   fault-place f e = stopped (length s) (debugTables byBytes s) f (standing.unreadable byBytes s f (sym e))
 
-  -- a bad text has a byte left, so the bytes that are left give its place
   pub told-place : (e : DebugFault) → badPlace s ≡ placeOf (length s) (debugFaultOf s e) → faultPlace e ≡ badPlace s
   told-place debugFault.Short k = sym k
-  told-place (debugFault.BadText p) k =
-      let b = bad-places s .has-place (length s - (length s - p)) k .text .bad in
-      let i = b .within in
-      let j = b .lies-whole in
-      let z : p ≡ length s - (length s - p) = omega arith in
-      ap some z ∙ sym k
+  told-place (debugFault.BadText p) k = ap some (sym (left-place s p (bad-places s .has-place (length s - (length s - p)) k .text))) ∙ sym k
 
   pub placed : (e : DebugFault) → refused (debugFaultOf s e) ≡ itemOf (debugStarts s) → faultPlace e ≡ badPlace s
   placed e h = told-place e (fault-place (debugFaultOf s e) h)

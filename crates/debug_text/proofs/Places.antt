@@ -15,7 +15,7 @@ use Rattle.reading.proofs.Parts.{length-part}
 use Rattle.reading.proofs.Width.{Needs, needs-at}
 use Rattle.format.specs.Parts.{Place}
 use Rattle.format.specs.Debug.{text, name, path}
-use Rattle.requests.specs.BadPlace.{BadAt}
+use Rattle.requests.specs.BadPlace.{BadAt, BadText}
 use Rattle.debug_text.specs.Answers.{keepIn, textStep}
 use Rattle.debug_text.specs.Laws.{badAt, short, Laws}
 use Rattle.debug_text.proofs.Texts as texts
@@ -28,6 +28,10 @@ never-short e = absurd (let z : _≡_ {A = ℕ} 0 1 = cc in omega arith)
 
 never-item : {B : Type 0} {n : ℕ} {q : Place} {m : ℕ} → stops (badText n) ≡ item q m → B
 never-item e = absurd (let z : _≡_ {A = ℕ} 0 1 = cc in omega arith)
+
+-- a bad text has a byte left, so the bytes that are left give its place
+pub left-place : (s : List ℕ) (p : ℕ) → BadText s (length s - (length s - p)) → length s - (length s - p) ≡ p
+left-place s p b = omega (arith, b .bad .within, b .bad .lies-whole)
 
 module _ (base : ℕ) (s : List ℕ) where
   text-short : (at n : ℕ) → at ≤ length s → length s < at + n → textStep s short ≡ stepAt (text (keepIn base s) n) s at
