@@ -41,7 +41,7 @@ static int print_hash(size_t length) {
 }
 
 static int print_constant(size_t length) {
-    size_t count = container_lookup(file, length, record, CONTAINER_LOADED, CONTAINER_GET_I32, 0, 0, numbers, CONTAINER_ROOM);
+    size_t count = container_lookup(file, length, record, CONTAINER_RECORD, CONTAINER_GET_I32, 0, 0, numbers, CONTAINER_ROOM);
     if (numbers[0] != 0)
         return refused(numbers, count);
     printf("constant 0 is %" PRId64 "\n", (int64_t)numbers[1]);
@@ -49,7 +49,7 @@ static int print_constant(size_t length) {
 }
 
 static int print_line(size_t length) {
-    size_t count = container_lookup(file, length, record, CONTAINER_LOADED, CONTAINER_LINE, 0, 3, numbers, CONTAINER_ROOM);
+    size_t count = container_lookup(file, length, record, CONTAINER_RECORD, CONTAINER_LINE, 0, 3, numbers, CONTAINER_ROOM);
     if (numbers[0] != 0)
         return refused(numbers, count);
     printf("function 0 at 3 is line %" PRIu64 ", column %" PRIu64 "\n", numbers[4], numbers[5]);

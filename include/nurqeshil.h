@@ -28,7 +28,8 @@ extern "C" {
 #endif
 
 #define CONTAINER_ROOM 64    /* numbers that `out` must have room for */
-#define CONTAINER_LOADED 44  /* numbers of a file that loads; later versions may write more behind them */
+#define CONTAINER_LOADED 62  /* numbers of a file that loads; later versions may write more behind them */
+#define CONTAINER_RECORD 44  /* the first of them, which stand for the file's record in container_lookup */
 #define CONTAINER_DIGEST 32  /* bytes of a hash */
 
 /* The refusals, with the values behind their numbers. README.md says what each means. */
@@ -63,7 +64,12 @@ enum container_refusal {
  *   36        count of constants
  *   37        1 if there is debug, else 0;  38 to 43  counts of lines, variables, functions, strings, files, enumerations, 0 without
  *             debug
- * These CONTAINER_LOADED numbers, the 0 included, stand for the file's record in container_lookup. */
+ *   44 to 61  which debug table is in force: three numbers for each of lines (tag 1), variables (2), functions (3), strings (4),
+ *             files (6), enumerations (9): 1 if a row of the debug section's directory has the tag, else 0; the number of the
+ *             last such row, the directory's first row being 0; how many earlier rows of the tag it replaced. 0 0 0 with no such
+ *             row, and without debug
+ * The first CONTAINER_RECORD numbers, the 0 included, stand for the file's record in container_lookup. They are all that earlier versions
+ * wrote, with CONTAINER_LOADED 44: a program built with that keeps working, unless it tests the returned count for 44. */
 size_t container_load(const uint8_t *file, size_t length, uint64_t *out, size_t room);
 
 /* The kinds of lookup, with the answer's numbers. Each takes `index`; those with a pair in parentheses also take `second`.
@@ -100,11 +106,11 @@ enum container_kind {
 };
 
 /* Looks up over a file and the record of a file: `record` is what container_load wrote, its first 0 included, and `numbers` is its
- * length; `out` must not be the same buffer. Only the first CONTAINER_LOADED numbers count. The record is not trusted: it may be made
+ * length; `out` must not be the same buffer. Only the first CONTAINER_RECORD numbers count. The record is not trusted: it may be made
  * up, or be that of another file. The lookup reads its section again, in `file`, at the record's place, size and function count. Over
  * the record of the file itself it answers what container_ask answers. Hashes are not checked again.
  *
- * The numbers stand for no record if there are fewer than CONTAINER_LOADED, the first is not 0, a number does not fit its
+ * The numbers stand for no record if there are fewer than CONTAINER_RECORD, the first is not 0, a number does not fit its
  * header field or a 16-bit count, a flag (types, debug) is neither 0 nor 1, or a count beside a flag 0 is not 0. Then, and
  * for an unknown kind, nothing is written and 0 is returned.
  *

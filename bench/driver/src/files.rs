@@ -24,6 +24,7 @@ pub const THREE_BYTE_TEXTS: &str = "names of three-byte letters";
 pub const MIXED_TEXTS: &str = "names of mixed letters";
 pub const BAD_TEXTS: &str = "names of 250 bytes, the last byte bad";
 pub const BAD_MIXED_TEXTS: &str = "names of mixed letters, the last byte bad";
+pub const EMPTY_TABLES: &str = "empty tables of lines";
 
 const FUNCTIONS: usize = 2;
 const BYTECODE: usize = 96;
@@ -270,6 +271,21 @@ pub fn unhashed(file: &File) -> File {
     bytes[CONTENT_HASH_RANGE].fill(0);
     bytes[DEBUG_HASH_RANGE].fill(0);
     File { shape: file.shape, bytes }
+}
+
+/// The file with its debug section's bytes as rows of lines, each table empty; none but for one shape.
+pub fn empty_tables(file: &File) -> Option<File> {
+    if file.shape != TEXTS {
+        return None;
+    }
+    let header = FileHeader::from_bytes(file.bytes[..256].try_into().expect("a header")).expect("a header");
+    let mut bytes = file.bytes.clone();
+    let section = &mut bytes[header.debug_section_offset as usize..][..header.debug_section_size as usize];
+    let rows = (section.len() - 2) / 10;
+    section.fill(0);
+    section[..2].copy_from_slice(&(rows as u16).to_le_bytes());
+    (0..rows).for_each(|row| section[2 + 8 * row] = 1);
+    Some(File { shape: EMPTY_TABLES, bytes })
 }
 
 /// The file with the last byte of its debug section, which is a name's, no longer UTF-8; none for a shape without such names.

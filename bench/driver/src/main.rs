@@ -168,13 +168,14 @@ fn print_files(files: &[File]) {
 fn main() {
     let hashed: Vec<File> = [SMALL, LARGE].into_iter().flat_map(files::hashed).collect();
     let unhashed: Vec<File> = hashed.iter().map(files::unhashed).collect();
-    let unreadable: Vec<File> = unhashed.iter().filter_map(files::unreadable).collect();
-    hashed.iter().chain(&unhashed).chain(&unreadable).for_each(agreement::of_file);
+    let mut others: Vec<File> = unhashed.iter().filter_map(files::unreadable).collect();
+    others.extend(unhashed.iter().filter_map(files::empty_tables));
+    hashed.iter().chain(&unhashed).chain(&others).for_each(agreement::of_file);
     hashed.iter().for_each(agreement::of_altered);
-    println!("both sides answer the same on {} files", hashed.len() + unhashed.len() + unreadable.len());
+    println!("both sides answer the same on {} files", hashed.len() + unhashed.len() + others.len());
     print_files(&hashed);
     let mut rows: Vec<Row> = unhashed.iter().map(|file| load(file, false)).collect();
-    rows.extend(unreadable.iter().map(|file| load(file, false)));
+    rows.extend(others.iter().map(|file| load(file, false)));
     rows.extend(hashed.iter().map(|file| load(file, true)));
     rows.extend([1_024, SMALL, LARGE, 261_376].map(hash));
     rows.extend(unhashed.iter().map(list));

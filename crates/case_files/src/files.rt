@@ -48,13 +48,23 @@ fn behind_byte(at: usize, end: usize) -> usize {
     at
 }
 
-// Writes bytes from a place on, given as two hexadecimal digits each with a space between them. What would lie outside the file is left out.
-pub fn put(file: &mut [u8], at: usize, text: &[u8]) {
+// Writes bytes from a place on, given as two hexadecimal digits each with a space between them. What would lie outside the file is left out. Answers the
+// place behind them.
+pub fn put(file: &mut [u8], at: usize, text: &[u8]) -> usize {
     let mut place = at;
     let mut i = 0;
     while i < text.len() {
         put_byte(file, place, byte_of(text, i));
         place = behind_byte(place, file.len());
         i = i + 3;
+    }
+    place
+}
+
+// Writes bytes that many times, one time behind the other.
+pub fn fill(file: &mut [u8], at: usize, times: usize, text: &[u8]) {
+    let mut place = at;
+    for _ in 0..times {
+        place = put(file, place, text);
     }
 }

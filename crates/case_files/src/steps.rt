@@ -1,6 +1,6 @@
 // The steps that every program of cases has: they make the file and the record's file, or lead to another line.
 use crate::files::copy;
-use crate::files::put;
+use crate::files::fill;
 use crate::lines::line_like;
 use crate::lines::number;
 use crate::lines::piece;
@@ -27,18 +27,20 @@ const ZEROS: u8 = 2;
 
 const PUT: u8 = 3;
 
-const LENGTH: u8 = 4;
+const FILL: u8 = 4;
 
-const RECORD: u8 = 5;
+const LENGTH: u8 = 5;
 
-const DO: u8 = 6;
+const RECORD: u8 = 6;
 
-const END: u8 = 7;
+const DO: u8 = 7;
 
-const STOP: u8 = 8;
+const END: u8 = 8;
+
+const STOP: u8 = 9;
 
 fn step_of(line: &[u8]) -> u8 {
-    place_among(b" # zeros put length record do: end stop", line)
+    place_among(b" # zeros put fill length record do: end stop", line)
 }
 
 // Whether a line is empty, a note or one of these steps, and so prints nothing.
@@ -55,7 +57,8 @@ fn made(step: u8, line: &[u8], file: &mut [u8], own: &mut [u8], now: Now) -> Now
             copy(file, own, 0);
             next.file = number(line, 1);
         }
-        PUT => put(file, number(line, 1), text(line)),
+        PUT => fill(file, number(line, 1), 1, text(line)),
+        FILL => fill(file, number(line, 1), number(line, 2), text(line)),
         LENGTH => next.file = number(line, 1),
         RECORD => {
             copy(own, file, n);

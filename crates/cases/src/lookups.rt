@@ -1,4 +1,4 @@
-// Lookups over a file and a record, each by its kind; where walks start; the debug section's bad place and state.
+// Lookups over a file and a record, each by its kind; where walks start; the debug section's bad place and state; the rows that the record holds.
 use answer_numbers::Numbers;
 use answer_numbers::refusal;
 use base::id_types::ConstantIndex;
@@ -13,6 +13,9 @@ use container::Container;
 use container::ContainerAnswer;
 use container::DebugFault;
 use container::DebugState;
+use container::MaybeRow;
+use container::RowsInForce;
+use container::TableRow;
 use debug_section::StartsAnswer;
 use lookup_kinds::kinds::ARRAY;
 use lookup_kinds::kinds::BYTECODE;
@@ -35,14 +38,16 @@ use lookup_kinds::kinds::TASK;
 use lookup_kinds::kinds::USER_FB;
 use lookup_kinds::kinds::VARIABLE;
 use programs::write;
+use programs::write_decimal;
 
 // How many walks have a word.
 const WALK_COUNT: u16 = 8;
 
-// The kind of a lookup by its word; the words are in the order of the kinds. Those of walks follow, then those of the bad place and of the state.
+// The kind of a lookup by its word; the words are in the order of the kinds. Those of walks follow, then those of the bad place, the
+// state and the rows in force.
 fn kind_of(line: &[u8]) -> u16 {
     place_among(
-        b"task program fb_type field array array_size user_fb constant i32 u32 i64 u64 f32 f64 str char_width function bytecode source_line line variable function_name string_layout source_file enumeration enumeration_value tasks: programs: fb_types: arrays: user_fbs: constants: functions: debug_tables: bad_place: debug_state:",
+        b"task program fb_type field array array_size user_fb constant i32 u32 i64 u64 f32 f64 str char_width function bytecode source_line line variable function_name string_layout source_file enumeration enumeration_value tasks: programs: fb_types: arrays: user_fbs: constants: functions: debug_tables: bad_place: debug_state: in_force:",
         line,
     ) as u16
 }
@@ -177,7 +182,29 @@ fn debug_state(c: Container, file: &[u8]) {
     write(b"\n");
 }
 
-// The line's lookup, walk, bad place or state over a file and the record of another. An unknown word prints nothing.
+// A row and how many it replaced.
+fn table_row(t: TableRow) {
+    let row = t.row;
+    match row {
+        MaybeRow::None => write(b" none"),
+        MaybeRow::At(i) => print_number(i as u64),
+    }
+    write(b"+");
+    write_decimal(t.replaced as u64);
+}
+
+// Of the tags 1, 2, 3, 4, 6 and 9.
+fn in_force(u: RowsInForce) {
+    table_row(u.lines);
+    table_row(u.variables);
+    table_row(u.functions);
+    table_row(u.strings);
+    table_row(u.files);
+    table_row(u.enumerations);
+    write(b"\n");
+}
+
+// The line's lookup, walk, bad place or state over a file and the record of another, or that record's rows. An unknown word prints nothing.
 fn ask(c: Container, file: &[u8], line: &[u8]) {
     let kind = kind_of(line);
     if kind < KIND_COUNT {
@@ -193,6 +220,9 @@ fn ask(c: Container, file: &[u8], line: &[u8]) {
     }
     if kind == KIND_COUNT + WALK_COUNT + 1 {
         debug_state(c, file);
+    }
+    if kind == KIND_COUNT + WALK_COUNT + 2 {
+        in_force(c.in_force);
     }
 }
 

@@ -16,7 +16,8 @@ use Rattle.format.specs.Constants.{Constant, constants}
 use Rattle.format.specs.Code.{Code, codeOf}
 use Rattle.format.specs.Types.{TypeTables}
 use Rattle.format.specs.Debug.{Tables}
-use Rattle.format.specs.Load.{Loaded, readIn, typesFound, debugFound, load}
+use Rattle.format.specs.InForce.{InForce}
+use Rattle.format.specs.Load.{Loaded, readIn, typesFound, debugFound, inForceFound, load}
 use Rattle.format.specs.Record.{TaskCounts, TypeCounts, DebugCounts, Container, taskCounts, typeCounts, debugCounts, recordOf, readFrom}
 use Rattle.format.specs.Lookups.{readAt}
 use Rattle.blake3.specs.Blake3.{blake3}
@@ -25,30 +26,30 @@ use Rattle.integrity.specs.Hashes.{contentChecked}
 use Rattle.integrity.proofs.Laws.{laws}
 use Rattle.container.specs.Sections.{Accepted, taskCountsAt, typeCountsOf, constantCountAt, codeReadsAt, recordFrom}
 
-abbrev loaded : Header → TaskTable → Option TypeTables → List (Constant (List ℕ)) → Code → Option (Tables (List ℕ)) → Loaded
-loaded h t u cs k debug = record { header = h; tasks = t; types = u; constants = cs; code = k; debug = debug }
+abbrev loaded : Header → TaskTable → Option TypeTables → List (Constant (List ℕ)) → Code → Option (Tables (List ℕ)) → InForce → Loaded
+loaded h t u cs k debug rows = record { header = h; tasks = t; types = u; constants = cs; code = k; debug = debug; inForce = rows }
 
 abbrev read : Code → Got (Unit {0})
 read k = found tt
 
 -- the sections one after another, by their tables and by the tables' counts
-alike : (h : Header) (debug : Option (Tables (List ℕ))) (x : Got TaskTable) (y : Got (Option TypeTables)) (z : Got (List (Constant (List ℕ)))) (w : Got Code)
+alike : (h : Header) (debug : Option (Tables (List ℕ))) (rows : InForce) (x : Got TaskTable) (y : Got (Option TypeTables)) (z : Got (List (Constant (List ℕ)))) (w : Got Code)
     → _≡_ {A = Got Container}
-    ((x >>= λ t. y >>= λ u. z >>= λ cs. w >>= λ k. found (loaded h t u cs k debug)) >>= λ l. found (recordOf l))
+    ((x >>= λ t. y >>= λ u. z >>= λ cs. w >>= λ k. found (loaded h t u cs k debug rows)) >>= λ l. found (recordOf l))
     ((x >>= λ t. found (taskCounts t)) >>= λ t. (y >>= λ u. found (typeCounts u)) >>= λ u. (z >>= λ cs. found (length cs)) >>= λ n. (w >>= read) >>= λ k.
-    found (record { header = h; tasks = t; types = u; constants = n; debug = debugCounts debug }))
-alike h debug (refused d) y z w = refl
-alike h debug (found t) (refused d) z w = refl
-alike h debug (found t) (found u) (refused d) w = refl
-alike h debug (found t) (found u) (found cs) (refused d) = refl
-alike h debug (found t) (found u) (found cs) (found k) = refl
+    found (record { header = h; tasks = t; types = u; constants = n; debug = debugCounts debug; inForce = rows }))
+alike h debug rows (refused d) y z w = refl
+alike h debug rows (found t) (refused d) z w = refl
+alike h debug rows (found t) (found u) (refused d) w = refl
+alike h debug rows (found t) (found u) (found cs) (refused d) = refl
+alike h debug rows (found t) (found u) (found cs) (found k) = refl
 
 pub accepted : (f : List ℕ) (h : Header) → Accepted f h → readFrom blake3 f ≡ recordFrom f h
 unfolding load readAt
 accepted f h a =
     let d = h .directory in
     rw (le-leb _ _ (a .short), a .header, a .content)
-    (alike h (debugFound blake3 f h) (readIn f (d .tasks) taskTable) (typesFound f h) (readIn f (d .constants) (constants byBytes)) (readIn f (d .code) (codeOf (h .runtime .functions))))
+    (alike h (debugFound blake3 f h) (inForceFound blake3 f h) (readIn f (d .tasks) taskTable) (typesFound f h) (readIn f (d .constants) (constants byBytes)) (readIn f (d .code) (codeOf (h .runtime .functions))))
 
 -- each answer, by what was answered before
 module _ (f : List ℕ) (h : Header) (a : Accepted f h) where
@@ -67,9 +68,10 @@ module _ (f : List ℕ) (h : Header) (a : Accepted f h) where
         pub code-refused : {e : Fault} → refused e ≡ codeReadsAt f (h .directory .code) (h .runtime .functions) → refused e ≡ readFrom blake3 f
         code-refused m = rw (accepted f h a, ← i, ← j, ← k, ← m)
 
-        pub all-found : {d : Option DebugCounts} → found tt ≡ codeReadsAt f (h .directory .code) (h .runtime .functions) → d ≡ debugCounts (debugFound blake3 f h)
-            → _≡_ {A = Got Container} (found (record { header = h; tasks = t; types = u; constants = n; debug = d })) (readFrom blake3 f)
-        all-found m e = rw (accepted f h a, ← i, ← j, ← k, ← m, e)
+        pub all-found : {d : Option DebugCounts} {rows : InForce} → found tt ≡ codeReadsAt f (h .directory .code) (h .runtime .functions) → d ≡ debugCounts (debugFound blake3 f h)
+            → rows ≡ inForceFound blake3 f h
+            → _≡_ {A = Got Container} (found (record { header = h; tasks = t; types = u; constants = n; debug = d; inForce = rows })) (readFrom blake3 f)
+        all-found m e g = rw (accepted f h a, ← i, ← j, ← k, ← m, e, g)
 
 module _ (f : List ℕ) where
   pub too-long : limit < length f → refused tooLong ≡ readFrom blake3 f

@@ -16,18 +16,20 @@ use Rattle.format.specs.Parts.{limit, hashLimit, Place, cut, isInside}
 use Rattle.format.specs.Header.{Header, typesFlag}
 use Rattle.format.specs.Types.{TypeTables, typeTables}
 use Rattle.format.specs.Debug.{Tables}
-use Rattle.format.specs.Load.{hasTypes, typesFound, debugFound, DebugState, empty, outside, hashDiffers, unreadable, read, stateOfRead, debugState, debugKept}
+use Rattle.format.specs.InForce.{InForce, noneInForce, inForceIn, inForceWith}
+use Rattle.format.specs.Load.{hasTypes, typesFound, debugFound, inForceFound, DebugState, empty, outside, hashDiffers, unreadable, read, stateOfRead, debugState, debugKept}
 use Rattle.format.specs.Record.{TypeCounts, DebugCounts, typeCounts, tableCounts, debugCounts, stateCounts}
 use Rattle.format.proofs.Answers.{never, same-found}
 use Rattle.format.proofs.Places.{length-cut, inside-is}
 use Rattle.format.proofs.DebugStates.{debug-states, section-decides}
+use Rattle.format.proofs.Loads.{debug-read}
 use Rattle.base.specs.Section.{sectionPart}
 use Rattle.base.proofs.FileLookups.{sliced, slice-is}
 use Rattle.blake3.specs.Blake3.{blake3}
 use Rattle.integrity.proofs.Laws.{laws}
 use Rattle.type_section.specs.Lookups.{typeCountsOfSection}
 use Rattle.integrity.specs.Hashes.{debugFits}
-use Rattle.container.specs.Sections.{typeCountsAt, typeCountsOf, sectionState, debugStateOf}
+use Rattle.container.specs.Sections.{typeCountsAt, typeCountsOf, sectionState, debugStateOf, inForceAt}
 
 abbrev counted : TypeTables → Got TypeCounts
 counted t = found (record { fbTypes = length (t .fbTypes); arrays = length (t .arrays); userFbs = length (t .userFbs) })
@@ -169,3 +171,30 @@ module _ (f : List ℕ) (h : Header) where
   pub debug-kept : {x : DebugState DebugCounts} → length f ≤ limit → x ≡ debugStateOf f h → debugKept x ≡ debugCounts (debugFound blake3 f h)
   unfolding debugStateOf
   debug-kept l e = ap debugKept (rw (le-leb _ _ l) at e) ∙ kept-counts (debugState blake3 f h) ∙ ap debugCounts (debug-states blake3 f h .kept)
+
+-- The rows of the tables in force
+
+module _ (f : List ℕ) (p : Place) where
+  pub rows-nowhere : {A : Type 0} {e : Fault} (counts : A) → refused e ≡ sectionPart f p → noneInForce ≡ inForceAt f p (some counts)
+  unfolding sectionPart
+  rows-nowhere {A} {e} counts h = go (leb (length f) limit) (isInside f p) h
+    where
+      go : (b i : Bool) → refused e ≡ (need b tooLong >> need i sectionSizeMismatch >> found p) → noneInForce ≡ cond (b && i) (inForceIn (cut f p)) noneInForce
+      go true true k = never k
+      go true false k = refl
+      go false i k = refl
+
+  pub rows-there : {A : Type 0} {q : Place} {rows : InForce} (counts : A) → found q ≡ sectionPart f p → rows ≡ inForceIn (sliced f q) → rows ≡ inForceAt f p (some counts)
+  rows-there counts h e =
+      let l = part-within f p h in
+      let s = part-inside f p l h in
+      e ∙ ap inForceIn (s .bytes) ∙ sym (rw (le-leb _ _ l, s .inside))
+
+-- of the section that was loaded
+pub rows-found : (f : List ℕ) (h : Header) {d : Option DebugCounts} → length f ≤ limit → d ≡ debugCounts (debugFound blake3 f h)
+    → inForceAt f (h .directory .debug) d ≡ inForceFound blake3 f h
+rows-found f h {d} l e = ap (inForceAt f (h .directory .debug)) e ∙ go (debugFound blake3 f h) refl
+  where
+    go : (x : Option (Tables (List ℕ))) → debugFound blake3 f h ≡ x → inForceAt f (h .directory .debug) (debugCounts x) ≡ inForceWith (cut f (h .directory .debug)) x
+    go none g = refl
+    go (some t) g = rw (le-leb _ _ l, debug-read blake3 f h t g .0)

@@ -22,7 +22,7 @@ abbrev pub SameRun : List ℕ → List ℕ → Type 0
 SameRun f g = SameRunSide f g → RunAlike f g
 
 -- Second half. Two files that load, the second's debug section being the first's with unknown tables added: both have debug, with the same counts and
--- tables, and the same answers
+-- tables, each having replaced as many earlier ones, and the same answers
 pub record DebugAlike (f g : List ℕ) : Type 0 where
   pub answers : (r s : Container) → readFrom blake3 f ≡ found r → readFrom blake3 g ≡ found s → TablesAdded blake3 f (r .header) g (s .header) → SameDebugRecords f r g s
   pub tables : (a b : Loaded) → load blake3 f ≡ found a → load blake3 g ≡ found b → TablesAdded blake3 f (a .header) g (b .header) → SameDebug f a g b

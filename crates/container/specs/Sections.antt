@@ -1,6 +1,6 @@
 -- On the way to a container: the sections at their places, each only by its counts.
 use Prim.Native.Nat.{ℕ, _≤_}
-use mathlib.Core.Bool.{cond}
+use mathlib.Core.Bool.{_&&_, cond}
 use mathlib.Core.List.{List}
 use mathlib.Core.Option.{Option, none, some}
 use mathlib.Core.Path.{_≡_}
@@ -15,7 +15,8 @@ use Rattle.format.specs.Types.{typeTables}
 use Rattle.format.specs.Constants.{constants}
 use Rattle.format.specs.Code.{codeOf}
 use Rattle.format.specs.Debug.{debugTables}
-use Rattle.format.specs.Load.{typesFound, debugSized, debugFound, DebugState, empty, outside, hashDiffers, stateOfRead, debugState}
+use Rattle.format.specs.InForce.{InForce, noneInForce, inForceIn}
+use Rattle.format.specs.Load.{typesFound, debugSized, debugFound, inForceFound, DebugState, empty, outside, hashDiffers, stateOfRead, debugState}
 use Rattle.format.specs.Record.{TaskCounts, TypeCounts, DebugCounts, Container, taskCounts, typeCounts, debugCounts, stateCounts}
 use Rattle.format.specs.Lookups.{readAt}
 use Rattle.blake3.specs.Blake3.{blake3}
@@ -53,6 +54,11 @@ sectionState d s = cond (debugFits d s) (stateCounts (stateOfRead (debugTables b
 unfoldable pub debugStateOf : List ℕ → Header → DebugState DebugCounts
 debugStateOf f h = cond (leb (length f) limit) (stateCounts (debugState blake3 f h)) (cond (debugSized h) outside empty)
 
+-- the rows of the tables in force in a file's debug section, by what was loaded of it: none where nothing was, or where the section is not in the file
+abbrev pub inForceAt : {A : Type 0} → List ℕ → Place → Option A → InForce
+inForceAt f p none = noneInForce
+inForceAt f p (some counts) = cond (leb (length f) limit && isInside f p) (inForceIn (cut f p)) noneInForce
+
 -- the record of an accepted file
 abbrev pub recordFrom : List ℕ → Header → Got Container
 recordFrom f h = do
@@ -60,4 +66,12 @@ recordFrom f h = do
   types ← typeCountsOf f h
   constants ← constantCountAt f (h .directory .constants)
   code ← codeReadsAt f (h .directory .code) (h .runtime .functions)
-  found (record { header = h; tasks = tasks; types = types; constants = constants; debug = debugCounts (debugFound blake3 f h) })
+  found
+      (record {
+        header = h;
+        tasks = tasks;
+        types = types;
+        constants = constants;
+        debug = debugCounts (debugFound blake3 f h);
+        inForce = inForceFound blake3 f h;
+      })

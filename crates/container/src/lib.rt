@@ -11,15 +11,16 @@ ghost use Rattle.blake3.specs.Blake3.{blake3};
 ghost use Rattle.header.specs.Answers.{headerIn};
 ghost use Rattle.task_table.specs.Answers.{taskCountsFrom};
 ghost use Rattle.constant_pool.specs.Answers.{countFrom};
-ghost use Rattle.debug_tables.specs.Answers.{maybeDebug};
+ghost use Rattle.debug_tables.specs.Answers.{maybeDebug, rowsInForce};
 ghost use Rattle.container.specs.Answers.{containerFrom, typesReadFrom, debugStateIn};
-ghost use Rattle.container.specs.Sections.{Accepted, taskCountsAt, typeCountsAt, typeCountsOf, constantCountAt, codeReadsAt, sectionState, debugStateOf};
+ghost use Rattle.container.specs.Sections.{Accepted, taskCountsAt, typeCountsAt, typeCountsOf, constantCountAt, codeReadsAt, sectionState, debugStateOf, inForceAt};
 ghost use Rattle.container.specs.PlaceTold.{PlaceTold};
 ghost use Rattle.container.specs.Independence.{SameRun, DebugAlike};
 ghost use Rattle.container.specs.Examples.{Examples};
 use base::section::section_part;
 use constant_pool::CountAnswer;
 use debug_tables::DebugCountsAnswer;
+use debug_tables::in_force::rows_in_force;
 use header::HeaderAnswer;
 use header::from_bytes;
 use header::has_types;
@@ -94,6 +95,10 @@ pub use debug_tables::BadPlace;
 pub use debug_tables::DebugCounts;
 pub use debug_tables::DebugTables;
 pub use debug_tables::MaybeDebug;
+pub use debug_tables::in_force::MaybeRow;
+pub use debug_tables::in_force::RowsInForce;
+pub use debug_tables::in_force::TableRow;
+pub use debug_tables::in_force::none_in_force;
 pub use debug_text::DebugFault;
 pub use debug_walks::EnumerationNext;
 pub use debug_walks::FunctionNameNext;
@@ -288,6 +293,23 @@ fn debug_of(file: &[u8], header: FileHeader) -> MaybeDebug
     }
 }
 
+// The rows of the debug section's tables in force; none where no debug was loaded.
+fn in_force_of(file: &[u8], section: Section, debug: MaybeDebug) -> RowsInForce
+    ensures { λ r. ⌜ rowsInForce r ≡ inForceAt (now (file .entry)) (placeIn section) (maybeDebug debug) ⌝ }
+{
+    match debug {
+        MaybeDebug::None => none_in_force(),
+        MaybeDebug::Some(_) => match section_part(file, section) {
+            PartAnswer::Refused(_) => none_in_force(),
+            PartAnswer::Part(p) => {
+                let offset = p.offset;
+                let size = p.size;
+                rows_in_force(&file[offset..offset + size])
+            }
+        },
+    }
+}
+
 // The sections of a file whose header is accepted: tasks, types, constants, code, debug.
 fn read_sections(file: &[u8], header: FileHeader) -> ContainerAnswer
     requires { ⌜ Accepted (now file) (headerIn header) ⌝ }
@@ -317,13 +339,18 @@ fn read_sections(file: &[u8], header: FileHeader) -> ContainerAnswer
         header.runtime.num_functions,
     ) {
         Checked::Refused(e) => ContainerAnswer::Refused(e),
-        Checked::Good => ContainerAnswer::Container(Container {
-            header,
-            tasks,
-            types,
-            constants,
-            debug: debug_of(file, header),
-        }),
+        Checked::Good => {
+            let debug = debug_of(file, header);
+            let in_force = in_force_of(file, header.sections.debug_section, debug);
+            ContainerAnswer::Container(Container {
+                header,
+                tasks,
+                types,
+                constants,
+                debug,
+                in_force,
+            })
+        }
     }
 }
 

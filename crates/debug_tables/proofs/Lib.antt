@@ -3,4 +3,5 @@ pub mod Rows
 pub mod Standing
 pub mod Counts
 pub mod BadPlaces
+pub mod LaterRows
 pub mod Few

@@ -7,7 +7,7 @@ use native.Mathlib.Omega.{arith}
 use lib.ListN.{length, take, drop, length-drop}
 use lib.Seq.{drop-drop}
 use Rattle.reading.specs.Fault.{Fault, shortInput}
-use Rattle.reading.specs.Numbers.{leAt}
+use Rattle.reading.specs.Numbers.{le, leAt}
 use Rattle.reading.specs.Reader.{Read, fault, got, next, many, bytes}
 use Rattle.reading.specs.Answer.{refused, found, itemOf}
 use Rattle.reading.specs.Places.{item, Reads}
@@ -21,13 +21,22 @@ use Rattle.debug_tables.specs.declared.DebugTables.{DebugTables}
 
 module _ (s : List ℕ) where
   -- a section that is too short for its count or its rows
-  pub read-short : length s < 2 → refused shortInput ≡ itemOf (debugStarts s)
-  unfolding debugStarts rowsOf
-  read-short h = rw (number-short 2 s h)
+  pub no-count : length s < 2 → rowsOf s ≡ fault shortInput
+  unfolding rowsOf
+  no-count h = rw (number-short 2 s h)
 
-  pub read-few : (n : ℕ) → 2 ≤ length s → n ≡ leAt 2 s 0 → length s < 2 + 8 * n → refused shortInput ≡ itemOf (debugStarts s)
-  unfolding debugStarts rowsOf
-  read-few n h e l = let d = length-drop 2 s in rw (number-at 2 s 0 2 refl h, ← e, fixed-many n (fixed-bytes 8) .short (drop 2 s) (omega arith))
+  pub few-rows : (n : ℕ) → 2 ≤ length s → n ≡ leAt 2 s 0 → length s < 2 + 8 * n → rowsOf s ≡ fault shortInput
+  unfolding rowsOf
+  few-rows n h e l = let d = length-drop 2 s in rw (number-at 2 s 0 2 refl h, ← e, fixed-many n (fixed-bytes 8) .short (drop 2 s) (omega arith))
+
+  pub read-short : rowsOf s ≡ fault shortInput → refused shortInput ≡ itemOf (debugStarts s)
+  unfolding debugStarts
+  read-short h = rw h
+
+  -- a row's tag stands at its place
+  pub tag-at : (p : ℕ) → tagOf (take 8 (drop p s)) ≡ leAt 2 s p
+  unfolding tagOf
+  tag-at p = ap le (part-of-part s p 8 0 2 (omega arith) ∙ ap (λ (k : ℕ). take 2 (drop k s)) (add-zero p))
 
   -- `i` of `n` rows are done, and their payloads up to `p`: the rows that are left, and the tables so far
   pub record RowsDone (n p i : ℕ) (u : DebugTables) : Type 0 where
@@ -61,8 +70,8 @@ module _ (s : List ℕ) where
     row = take 8 (drop (2 + 8 * i) s)
 
     row-kind : kindOf (tagOf row) ≡ k
-    unfolding tagOf row
-    row-kind = let a = part-of-part s (2 + 8 * i) 8 0 2 (omega arith) in rw (kind, tagged, a, add-zero (2 + 8 * i))
+    unfolding row
+    row-kind = rw (kind, tagged, tag-at (2 + 8 * i))
 
     row-size : sizeOf row ≡ size
     unfolding sizeOf row

@@ -6,6 +6,7 @@ use Rattle.reading.specs.Answer.{Got, refused, found}
 use Rattle.reading.specs.Places.{Step, stops, item}
 use Rattle.reading.specs.declared.Table.{Table}
 use Rattle.format.specs.Debug.{Kind, lines, variables, functions, strings, files, enumerations, unknown}
+use Rattle.format.specs.InForce as force
 use Rattle.format.specs.Record as record-of
 use Rattle.debug_text.specs.Answers.{debugFaultOf}
 use Rattle.debug_tables.specs.declared.TableKind.{TableKind}
@@ -22,6 +23,10 @@ use Rattle.debug_tables.specs.declared.MaybeDebug.{MaybeDebug}
 use Rattle.debug_tables.specs.declared.MaybeDebug.the-variants as maybe
 use Rattle.debug_tables.specs.declared.BadPlace.{BadPlace}
 use Rattle.debug_tables.specs.declared.BadPlace.the-variants as place
+use Rattle.debug_tables.specs.declared.in_force.MaybeRow.{MaybeRow}
+use Rattle.debug_tables.specs.declared.in_force.MaybeRow.the-variants as row
+use Rattle.debug_tables.specs.declared.in_force.TableRow.{TableRow}
+use Rattle.debug_tables.specs.declared.in_force.RowsInForce.{RowsInForce}
 
 abbrev pub kindIn : TableKind → Kind
 kindIn kind.Lines = lines
@@ -65,3 +70,22 @@ maybeDebug (maybe.Some c) = some (debugCountsIn c)
 abbrev pub badPlaceIn : BadPlace → Option ℕ
 badPlaceIn place.None = none
 badPlaceIn (place.At p) = some p
+
+-- the rows of the tables in force
+abbrev pub maybeRow : MaybeRow → Option ℕ
+maybeRow row.None = none
+maybeRow (row.At i) = some i
+
+abbrev pub tableRowIn : TableRow → force.TableRow
+tableRowIn t = record { row = maybeRow (t .row); replaced = t .replaced }
+
+abbrev pub rowsInForce : RowsInForce → force.InForce
+rowsInForce u =
+    record {
+      lines = tableRowIn (u .lines);
+      variables = tableRowIn (u .variables);
+      functions = tableRowIn (u .functions);
+      strings = tableRowIn (u .strings);
+      files = tableRowIn (u .files);
+      enumerations = tableRowIn (u .enumerations);
+    }

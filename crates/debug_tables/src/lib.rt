@@ -1,4 +1,6 @@
 // The rows of the debug section `s`, and where its tables in force stand in it. Names and paths are skipped: their place in the file does not matter.
+pub mod in_force;
+
 use debug_entries::enumerations::skip_enumerations;
 use debug_entries::function_names::skip_function_names;
 use debug_entries::source_files::skip_source_files;

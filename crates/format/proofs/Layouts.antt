@@ -48,6 +48,7 @@ layouts =
       stringLayout = refl;
       sourceFile = refl;
       enumeration = refl;
+      row = (refl, refl);
       known-tags = (refl, refl, refl, refl, refl, refl);
       unknown-tags = (refl, refl, refl, refl, refl);
       replaced = refl;

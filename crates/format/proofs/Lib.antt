@@ -9,6 +9,7 @@ pub mod DebugStates
 pub mod OwnRecord
 pub mod RunSide
 pub mod Order
+pub mod InForce
 pub mod UnknownTables
 pub mod RefusalsGiven
 pub mod Refusals

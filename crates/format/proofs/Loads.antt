@@ -16,7 +16,7 @@ use Rattle.format.specs.Types.{TypeTables, typeTables}
 use Rattle.format.specs.Constants.{constants}
 use Rattle.format.specs.Code.{codeOf}
 use Rattle.format.specs.Debug.{Tables}
-use Rattle.format.specs.Load.{Loaded, readIn, hasTypes, typesFound, debugSized, debugInside, debugHashRight, debugOf, debugFound, load}
+use Rattle.format.specs.Load.{Loaded, readIn, hasTypes, typesFound, debugSized, debugInside, debugHashRight, debugOf, debugFound, inForceFound, load}
 use Rattle.format.proofs.Answers.{absent, same-found, same-some, steps, needed, first-of, second-of}
 
 pub record Facts (hash : List ℕ → List ℕ) (f : List ℕ) (l : Loaded) : Type 0 where
@@ -27,6 +27,7 @@ pub record Facts (hash : List ℕ → List ℕ) (f : List ℕ) (l : Loaded) : Ty
   pub constants : readIn f (l .header .directory .constants) (constants byBytes) ≡ found (l .constants)
   pub code : readIn f (l .header .directory .code) (codeOf (l .header .runtime .functions)) ≡ found (l .code)
   pub debug : debugFound hash f (l .header) ≡ l .debug
+  pub in-force : inForceFound hash f (l .header) ≡ l .inForce
 
 pub facts : (hash : List ℕ → List ℕ) (f : List ℕ) (l : Loaded) → load hash f ≡ found l → Facts hash f l
 unfolding load
@@ -48,6 +49,7 @@ facts hash f l e =
       constants = k .first;
       code = m .first;
       debug = refl;
+      in-force = refl;
     })
 
 types-inside : (f : List ℕ) (h : Header) → hasTypes f h ≡ true → isInside f (h .directory .types) ≡ true

@@ -24,6 +24,7 @@ use Rattle.format.specs.Constants as kept
 use Rattle.format.specs.Code.{Code, function, codeOf}
 use Rattle.format.specs.Debug.{Line, Tables, noTables, debugTables, rowsOf, payloadOf, tagOf, sizeOf, kindOf, line}
 use Rattle.format.specs.Lines.{sorted, lineFor}
+use Rattle.format.specs.InForce.{noneInForce}
 use Rattle.format.specs.Load.{readIn, hasTypes, typesFound, load}
 use Rattle.format.specs.Record.{TypeCounts, DebugCounts, Container}
 use Rattle.format.specs.Lookups.{tasksIn, typesIn, constantsIn, codeIn, orNoDebug, debugIn}
@@ -200,6 +201,7 @@ recordWith types debug p functions =
       types = types;
       constants = 0;
       debug = debug;
+      inForce = noneInForce;
     }
 
 abbrev someTypes : TypeCounts

@@ -18,6 +18,7 @@ use Rattle.format.specs.Parts.{Place, cut, Inside, byBytes}
 use Rattle.format.specs.Header.{Header}
 use Rattle.format.specs.Integrity.{debugHashFits}
 use Rattle.format.specs.Debug.{Row, unknown, payload, tagOf, sizeOf, kindOf, payloadOf, tablesOf, skipped, Tables, noTables, put, rowsOf, debugTables}
+use Rattle.format.specs.InForce.{inForceBy, inForceIn, inForceWith, replacedCounts}
 use Rattle.format.specs.Load.{load, readable, debugOf, debugFound}
 use Rattle.format.specs.Record.{Container, debugCounts, recordOf}
 use Rattle.format.specs.Lookups.{debugAnswersOf}
@@ -28,6 +29,7 @@ use Rattle.format.proofs.Places.{is-inside}
 use Rattle.format.proofs.Readers.{local-table}
 use Rattle.format.proofs.Loads.{facts}
 use Rattle.format.proofs.OwnRecord.{own-record}
+use Rattle.format.proofs.InForce.{replaced-alike}
 
 -- the bytes that a local reader takes give the same before anything else
 frame : {A : Type 0} {r : Reader A} → Local r → (p t u : List ℕ) (a : A) → r (p ++ t) ≡ got a t → r (p ++ u) ≡ got a u
@@ -98,19 +100,27 @@ same-tables (kept {p} {ps} {qs} w) s rest t (x, s′, e, b, h) =
 same-tables (added {q} {ps} {qs} u w) s rest t h =
     rw (append-assoc (q .payload) (payloadBytes qs) rest, skip (q .row) (q .payload) (payloadBytes qs ++ rest) (u .notListed) (u .sized)) (same-tables w s rest t h)
 
--- E reads as D does
-section-same : {d e : List ℕ} → Added d e → debugTables byBytes e ≡ debugTables byBytes d
-unfolding debugTables
-section-same {d} {e} a =
+-- E's rows, and the bytes behind them
+new-rows : {d e : List ℕ} → (a : Added d e) → rowsOf e ≡ got (allRows (a .new)) (payloadBytes (a .new) ++ a .old .rest)
+new-rows {d} {e} a =
     let p = a .old in
     rw (
       a .holds,
       append-assoc (rowBytes (a .new)) (payloadBytes (a .new)) (p .rest),
       rows-of-e (a .low) (a .high) (a .new) (payloadBytes (a .new) ++ p .rest) (a .count)
           (interleaved-whole (a .interleaved) (rows-of-d d (p .parts) (p .behindRows) (p .rows))),
-      p .rows,
     )
-    (same-tables (a .interleaved) (p .behindRows) (p .rest) noTables (p .takes))
+
+-- E reads as D does
+section-same : {d e : List ℕ} → Added d e → debugTables byBytes e ≡ debugTables byBytes d
+unfolding debugTables
+section-same {d} {e} a = let p = a .old in rw (new-rows a, p .rows) (same-tables (a .interleaved) (p .behindRows) (p .rest) noTables (p .takes))
+
+-- and each of its tables in force has replaced as many
+replaced-same : {d e : List ℕ} → Added d e → replacedCounts (inForceIn d) ≡ replacedCounts (inForceIn e)
+unfolding inForceIn
+replaced-same a =
+    ap (λ x. replacedCounts (inForceBy x)) (a .old .rows) ∙ replaced-alike (a .interleaved) ∙ sym (ap (λ x. replacedCounts (inForceBy x)) (new-rows a))
 
 debug-same : {d e : List ℕ} → Added d e → debugOf e ≡ debugOf d
 unfolding debugOf
@@ -146,6 +156,10 @@ unknown-tables hash f g a b d e h =
       tables = t;
       in-first = p;
       in-second = q;
+      replaced =
+          ap replacedCounts (sym (facts hash f a d .in-force) ∙ ap (inForceWith (cut f (a .header .directory .debug))) (facts hash f a d .debug ∙ p))
+          ∙ replaced-same (h .added)
+          ∙ ap replacedCounts (sym (ap (inForceWith (cut g (b .header .directory .debug))) (facts hash g b e .debug ∙ q)) ∙ facts hash g b e .in-force);
       answers = own-record hash f a d .debug ∙ ap (λ x. debugAnswersOf (present noDebug x)) (p ∙ sym q) ∙ sym (own-record hash g b e .debug);
     }
 
@@ -158,5 +172,5 @@ unknown-tables-of-records hash f g r s d e h =
     (subst (λ (y : Container). TablesAdded hash f (a .item .header) g (y .header) → SameDebugRecords f (recordOf (a .item)) g y) (same-found (b .second))
     (λ k.
     let z = unknown-tables hash f g (a .item) (b .item) (a .first) (b .first) k in
-    record { counts = _; in-first = ap debugCounts (z .in-first); in-second = ap debugCounts (z .in-second); answers = z .answers }))
+    record { counts = _; in-first = ap debugCounts (z .in-first); in-second = ap debugCounts (z .in-second); replaced = z .replaced; answers = z .answers }))
     h

@@ -116,6 +116,7 @@ pub record Layouts : Type 0 where
   pub stringLayout : debug.stringLayout (rising 8 1) ≡ got (record { variable = 0x0201; dataOffset = 0x06050403; maxLength = 0x0807 }) []
   pub sourceFile : debug.sourceFile byBytes (1 ∷ 0 ∷ 65 ∷ rising 32 1) ≡ got (record { located = 65 ∷ []; hash = rising 32 1 }) []
   pub enumeration : debug.enumeration byBytes (1 ∷ 65 ∷ 2 ∷ 0 ∷ 1 ∷ 66 ∷ 0 ∷ []) ≡ got (record { named = 65 ∷ []; values = (66 ∷ []) ∷ [] ∷ [] }) []
+  pub row : (debug.tagOf (rising 8 1) ≡ 0x0201) × (debug.sizeOf (rising 8 1) ≡ 0x08070605)
   pub known-tags : (debug.kindOf 1 ≡ debug.lines) × (debug.kindOf 2 ≡ debug.variables) × (debug.kindOf 3 ≡ debug.functions) × (debug.kindOf 4 ≡ debug.strings) × (debug.kindOf 6 ≡ debug.files) × (debug.kindOf 9 ≡ debug.enumerations)
   pub unknown-tags : (debug.kindOf 0 ≡ debug.unknown) × (debug.kindOf 5 ≡ debug.unknown) × (debug.kindOf 7 ≡ debug.unknown) × (debug.kindOf 8 ≡ debug.unknown) × (debug.kindOf 10 ≡ debug.unknown)
   -- a later table replaces the earlier, even by an empty one

@@ -6,6 +6,7 @@ pub mod Types
 pub mod Constants
 pub mod Code
 pub mod Debug
+pub mod InForce
 pub mod Lines
 pub mod Integrity
 pub mod Load

@@ -17,8 +17,9 @@ use Rattle.format.specs.Types.{TypeTables, typeTables}
 use Rattle.format.specs.Constants.{Constant, constants}
 use Rattle.format.specs.Code.{Code, codeOf}
 use Rattle.format.specs.Debug.{Tables, debugTables}
+use Rattle.format.specs.InForce.{InForce, inForceWith}
 
--- what a loaded file holds; strings, names and paths by their bytes
+-- what a loaded file holds; strings, names and paths by their bytes. The rows of the debug tables in force stand beside these tables
 pub record Loaded : Type 0 where
   pub header : Header
   pub tasks : TaskTable
@@ -26,6 +27,7 @@ pub record Loaded : Type 0 where
   pub constants : List (Constant (List ℕ))
   pub code : Code
   pub debug : Option (Tables (List ℕ))
+  pub inForce : InForce
 
 -- document 01: "each section is handed on as the part of the file that starts at its offset and has its size": 4 before it is read, then its own refusal
 unfoldable pub readIn : {A : Type 0} → List ℕ → Place → Reader A → Got A
@@ -68,6 +70,10 @@ debugFound hash f h =
     let read = debugOf (cut f (h .directory .debug)) in
     cond (debugSized h && debugInside f h && debugHashRight hash f h) read none
 
+-- the rows of the tables in force: those of the section if it is loaded, and else none
+abbrev pub inForceFound : (List ℕ → List ℕ) → List ℕ → Header → InForce
+inForceFound hash f h = inForceWith (cut f (h .directory .debug)) (debugFound hash f h)
+
 -- The same tests in the paper's order: the first that fails decides in which state the debug section is
 
 pub data DebugState (A : Type 0) : Type 0 where
@@ -106,4 +112,13 @@ load hash f = do
   types ← typesFound f h
   constants ← readIn f (h .directory .constants) (constants byBytes)
   code ← readIn f (h .directory .code) (codeOf (h .runtime .functions))
-  found (record { header = h; tasks = tasks; types = types; constants = constants; code = code; debug = debugFound hash f h })
+  found
+      (record {
+        header = h;
+        tasks = tasks;
+        types = types;
+        constants = constants;
+        code = code;
+        debug = debugFound hash f h;
+        inForce = inForceFound hash f h;
+      })

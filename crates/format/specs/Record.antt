@@ -1,5 +1,5 @@
 -- The record that reading yields (document 01, "Shape"): the header, which has every section's place and size and the function count,
--- and the other counts. A record is not trusted: anyone can construct one.
+-- and the other counts; and the rows of the debug tables in force (document 02, slip 2). A record is not trusted: anyone can construct one.
 use Prim.Native.Nat.{ℕ}
 use mathlib.Core.List.{List}
 use mathlib.Core.Option.{Option, none, some}
@@ -12,6 +12,7 @@ use Rattle.format.specs.Header.{Header}
 use Rattle.format.specs.Tasks.{TaskTable}
 use Rattle.format.specs.Types.{TypeTables}
 use Rattle.format.specs.Debug.{Tables}
+use Rattle.format.specs.InForce.{InForce}
 use Rattle.format.specs.Load.{Loaded, load, DebugState, empty, outside, hashDiffers, unreadable, read}
 
 pub record TaskCounts : Type 0 where
@@ -38,6 +39,7 @@ pub record Container : Type 0 where
   pub types : Option TypeCounts
   pub constants : ℕ
   pub debug : Option DebugCounts
+  pub inForce : InForce
 
 -- The counts of tables
 
@@ -80,6 +82,7 @@ recordOf l =
       types = typeCounts (l .types);
       constants = length (l .constants);
       debug = debugCounts (l .debug);
+      inForce = l .inForce;
     }
 
 -- what `read_from` answers

@@ -9,6 +9,7 @@ use Rattle.format.specs.Parts.{cut, Inside}
 use Rattle.format.specs.Header.{Header}
 use Rattle.format.specs.Integrity.{debugHashFits}
 use Rattle.format.specs.Debug.{Tables}
+use Rattle.format.specs.InForce.{replacedCounts}
 use Rattle.format.specs.Load.{Loaded, load, debugOf}
 use Rattle.format.specs.Record.{DebugCounts, Container, recordOf, readFrom}
 use Rattle.format.specs.Lookups.{debugAnswers, debugByBytes}
@@ -28,11 +29,13 @@ pub record TablesAdded (hash : List ℕ → List ℕ) (f : List ℕ) (h : Header
   pub second-fits : debugHashFits hash (k .debugHash) (debugBytes g k) ≡ true
   pub first-reads : (t : Tables (List ℕ)) × (debugOf (debugBytes f h) ≡ some t)
 
--- both have debug, with the same six tables, and each file with its own record gives the same answers, names and paths by their bytes
+-- both have debug, with the same six tables, and each file with its own record gives the same answers, names and paths by their bytes. Document 02, slip 2:
+-- "Row numbers may shift when unknown tables are added, so the independence rule leaves them out and covers the replaced counts."
 pub record SameDebug (f : List ℕ) (a : Loaded) (g : List ℕ) (b : Loaded) : Type 0 where
   pub tables : Tables (List ℕ)
   pub in-first : a .debug ≡ some tables
   pub in-second : b .debug ≡ some tables
+  pub replaced : replacedCounts (a .inForce) ≡ replacedCounts (b .inForce)
   pub answers : debugByBytes f (debugAnswers f (recordOf a)) ≡ debugByBytes g (debugAnswers g (recordOf b))
 
 abbrev pub UnknownTables : (List ℕ → List ℕ) → Type 0
@@ -44,6 +47,7 @@ pub record SameDebugRecords (f : List ℕ) (r : Container) (g : List ℕ) (s : C
   pub counts : DebugCounts
   pub in-first : r .debug ≡ some counts
   pub in-second : s .debug ≡ some counts
+  pub replaced : replacedCounts (r .inForce) ≡ replacedCounts (s .inForce)
   pub answers : debugByBytes f (debugAnswers f r) ≡ debugByBytes g (debugAnswers g s)
 
 abbrev pub UnknownTablesOfRecords : (List ℕ → List ℕ) → Type 0

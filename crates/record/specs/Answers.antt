@@ -9,7 +9,7 @@ use Rattle.header.specs.Answers.{headerIn}
 use Rattle.task_table.specs.Answers as tasks
 use Rattle.type_section.specs.Answers as types
 use Rattle.debug_entries.specs.Answers.{EnumerationWithValues, withValues}
-use Rattle.debug_tables.specs.Answers.{maybeDebug}
+use Rattle.debug_tables.specs.Answers.{maybeDebug, rowsInForce}
 use Rattle.record.specs.declared.MaybeTypes.{MaybeTypes}
 use Rattle.record.specs.declared.MaybeTypes.the-variants as maybe-types
 use Rattle.record.specs.declared.Container.{Container}
@@ -26,6 +26,7 @@ containerIn c =
       types = maybeTypes (c .types);
       constants = c .constants;
       debug = maybeDebug (c .debug);
+      inForce = rowsInForce (c .«in_force»);
     }
 
 -- an enumeration with the table of its values' names

@@ -40,6 +40,7 @@ use debug_section::ValueAnswer;
 use debug_section::VariableAnswer;
 use debug_tables::BadPlace;
 use debug_tables::MaybeDebug;
+use debug_tables::in_force::RowsInForce;
 use header::FileHeader;
 use line_map::LineAnswer;
 use task_table::ProgramAnswer;
@@ -58,13 +59,15 @@ pub enum MaybeTypes {
     Some(TypeCounts),
 }
 
-// A container: the header, which holds each section's place and size and the function count, and the other counts.
+// A container: the header, which holds each section's place and size and the function count; the other counts; and, of the debug tables in force, their
+// rows and how many earlier rows each replaced. No lookup reads these rows.
 pub struct Container {
     pub header: FileHeader,
     pub tasks: TaskCounts,
     pub types: MaybeTypes,
     pub constants: u16,
     pub debug: MaybeDebug,
+    pub in_force: RowsInForce,
 }
 
 // The refusal of a lookup in types or debug that the record lacks: 10 first, else `out`.

@@ -12,7 +12,7 @@ use lib.Dec.{leb, eqb}
 use lib.ListN.{length, getD, take, drop, drop-of-length-le}
 use lib.Seq.{drop-cons, length-take-le}
 use Rattle.format.specs.Record.{Container}
-use Rattle.record_numbers.specs.ToNumbers.{headNumbers, directoryNumbers, runtimeNumbers, taskCountNumbers, typeCountNumbers, debugCountNumbers, recordNumbers}
+use Rattle.record_numbers.specs.ToNumbers.{headNumbers, directoryNumbers, runtimeNumbers, taskCountNumbers, typeCountNumbers, debugCountNumbers, lookupNumbers}
 use Rattle.record_numbers.specs.FromNumbers.{numberCount, most2, headMost, directoryMost, runtimeMost, taskCountMost, typeCountMost, debugCountMost, mostCount, mostWith, mostNumbers, mostOfFields, fits, typesFlagAt, debugFlagAt, numberAt, recordBy, recordOfFirst, recordOfNumbers}
 use Rattle.record_numbers.specs.Answers.{lowAt, AllAtMost}
 use Rattle.record_numbers.specs.Laws.{Fits}
@@ -137,7 +137,7 @@ module _ (r : Container) where
       let with-constants : AllAtMost (types-most ++ (most2 ∷ [])) (types ++ (r .constants ∷ [])) = join types-most types (most2 ∷ []) (r .constants ∷ []) with-types k in
       record {
         all =
-            at-most mostOfFields (0 ∷ recordNumbers r)
+            at-most mostOfFields (0 ∷ lookupNumbers r)
             (join (types-most ++ (most2 ∷ [])) (types ++ (r .constants ∷ [])) (debugCountMost most2) (debugCountNumbers (r .debug)) with-constants g);
       }
 

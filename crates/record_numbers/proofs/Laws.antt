@@ -8,23 +8,29 @@ use native.Mathlib.Omega.{arith}
 use lib.ListN.{length, getD, take, drop, replicate}
 use lib.Seq.{take-append-le, getD-take, getD-drop, take-all}
 use Rattle.format.specs.Record.{TypeCounts, DebugCounts, Container}
-use Rattle.record_numbers.specs.ToNumbers.{recordNumbers}
+use Rattle.record_numbers.specs.ToNumbers.{lookupNumbers, recordNumbers}
 use Rattle.record_numbers.specs.FromNumbers.{numberCount, mostCount, mostWith, mostNumbers, mostOfFields, fits, recordBy, recordOfFirst, recordOfNumbers, numberAt, typesFlagAt, constantsPlace, debugFlagAt}
-use Rattle.record_numbers.specs.Laws.{withoutHashes, Fits, Laws}
+use Rattle.record_numbers.specs.Laws.{keptInNumbers, Fits, Laws}
 use Rattle.record_numbers.proofs.Mill.{mill-numbers}
 use Rattle.record_numbers.proofs.Fitting.{too-short, too-large-at, no-record, fields-fit}
 
 -- a record with these types and debug
 abbrev with-sections : Container → Option TypeCounts → Option DebugCounts → Container
-with-sections c t d = record { header = c .header; tasks = c .tasks; types = t; constants = c .constants; debug = d }
+with-sections c t d = record { header = c .header; tasks = c .tasks; types = t; constants = c .constants; debug = d; inForce = c .inForce }
 
-back : (c : Container) (more : List ℕ) (t : Option TypeCounts) (d : Option DebugCounts) → fits mostOfFields (0 ∷ recordNumbers (with-sections c t d)) ≡ true
-    → recordOfNumbers ((0 ∷ recordNumbers (with-sections c t d)) ++ more) ≡ some (withoutHashes (with-sections c t d))
+back : (c : Container) (more : List ℕ) (t : Option TypeCounts) (d : Option DebugCounts) → fits mostOfFields (0 ∷ lookupNumbers (with-sections c t d)) ≡ true
+    → recordOfNumbers ((0 ∷ lookupNumbers (with-sections c t d)) ++ more) ≡ some (keptInNumbers (with-sections c t d))
 unfolding recordOfFirst fits
-back c more none none h = ap (λ (b : Bool). cond b (some (withoutHashes (with-sections c none none))) none) h
-back c more none (some d) h = ap (λ (b : Bool). cond b (some (withoutHashes (with-sections c none (some d)))) none) h
-back c more (some t) none h = ap (λ (b : Bool). cond b (some (withoutHashes (with-sections c (some t) none))) none) h
-back c more (some t) (some d) h = ap (λ (b : Bool). cond b (some (withoutHashes (with-sections c (some t) (some d)))) none) h
+back c more none none h = ap (λ (b : Bool). cond b (some (keptInNumbers (with-sections c none none))) none) h
+back c more none (some d) h = ap (λ (b : Bool). cond b (some (keptInNumbers (with-sections c none (some d)))) none) h
+back c more (some t) none h = ap (λ (b : Bool). cond b (some (keptInNumbers (with-sections c (some t) none))) none) h
+back c more (some t) (some d) h = ap (λ (b : Bool). cond b (some (keptInNumbers (with-sections c (some t) (some d)))) none) h
+
+count-by : (c : Container) (t : Option TypeCounts) (d : Option DebugCounts) → (length (0 ∷ lookupNumbers (with-sections c t d)) ≡ numberCount) × (length (0 ∷ recordNumbers (with-sections c t d)) ≡ numberCount + 18)
+count-by c none none = (refl, refl)
+count-by c none (some d) = (refl, refl)
+count-by c (some t) none = (refl, refl)
+count-by c (some t) (some d) = (refl, refl)
 
 first-count : (ns more : List ℕ) → numberCount ≤ length ns → recordOfNumbers (ns ++ more) ≡ recordOfNumbers ns
 first-count ns more h = ap recordOfFirst (take-append-le numberCount ns more h)
@@ -95,6 +101,7 @@ module _ (ns : List ℕ) (k : ℕ) where
 pub laws : Laws
 laws =
     record {
+      how-many = λ c. count-by c (c .types) (c .debug);
       comes-back = λ c more h. back c more (c .types) (c .debug) (h .all);
       first-count = first-count;
       too-few = too-few;
@@ -104,5 +111,6 @@ laws =
       too-large = too-large;
       no-types = no-types;
       no-debug = no-debug;
+      rows-in-order = refl;
       mill-numbers = mill-numbers;
     }

@@ -1,4 +1,5 @@
--- Numbers back to a record: the 0 of a file that loads and the numbers of its record, in the order of `recordNumbers`. Only the first 44 count.
+-- Numbers back to a record: the 0 of a file that loads and the numbers of its record, in the order of `recordNumbers`. Only the first 44 count: those
+-- that a lookup needs. The rows in force behind them are not read back.
 use Prim.Native.Nat.{ℕ, _+_}
 use mathlib.Core.Bool.{Bool, true, false, _&&_, cond}
 use mathlib.Core.List.{List, [], _∷_, _++_}
@@ -7,9 +8,10 @@ use lib.Dec.{leb, eqb}
 use lib.ListN.{getD, take, replicate}
 use Rattle.format.specs.Parts.{hashSize, Place}
 use Rattle.format.specs.Header.{Header, Directory, Runtime}
+use Rattle.format.specs.InForce.{noneInForce}
 use Rattle.format.specs.Record.{TaskCounts, TypeCounts, DebugCounts, Container}
 
--- the numbers of a record, with the 0 in front of them
+-- the numbers that stand for a record, with the 0 in front of them
 abbrev pub numberCount : ℕ
 numberCount = 44
 
@@ -145,7 +147,15 @@ debugCountsBy n =
     (some (record { lines = n 38; variables = n 39; functions = n 40; strings = n 41; files = n 42; enumerations = n 43 }))
 
 abbrev pub recordBy : (ℕ → ℕ) → Container
-recordBy n = record { header = headerBy n; tasks = taskCountsBy n; types = typeCountsBy n; constants = n constantsPlace; debug = debugCountsBy n }
+recordBy n =
+    record {
+      header = headerBy n;
+      tasks = taskCountsBy n;
+      types = typeCountsBy n;
+      constants = n constantsPlace;
+      debug = debugCountsBy n;
+      inForce = noneInForce;
+    }
 
 -- the number at a place of a list
 abbrev pub numberAt : List ℕ → ℕ → ℕ

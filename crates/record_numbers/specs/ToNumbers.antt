@@ -3,6 +3,7 @@ use Prim.Native.Nat.{ℕ}
 use mathlib.Core.List.{List, [], _∷_, _++_}
 use mathlib.Core.Option.{Option, none, some}
 use Rattle.format.specs.Header.{Header, Directory, Runtime}
+use Rattle.format.specs.InForce.{TableRow, InForce}
 use Rattle.format.specs.Record.{TaskCounts, TypeCounts, DebugCounts, Container}
 
 -- version, profile, flags
@@ -38,5 +39,27 @@ abbrev pub debugCountNumbers : Option DebugCounts → List ℕ
 debugCountNumbers none = 0 ∷ 0 ∷ 0 ∷ 0 ∷ 0 ∷ 0 ∷ 0 ∷ []
 debugCountNumbers (some d) = 1 ∷ d .lines ∷ d .variables ∷ d .functions ∷ d .strings ∷ d .files ∷ d .enumerations ∷ []
 
+-- of a tag: 1 and the row's number, or 0 and 0 without a row; then the replaced count
+abbrev pub rowFlag : Option ℕ → ℕ
+rowFlag none = 0
+rowFlag (some i) = 1
+
+abbrev pub rowNumber : Option ℕ → ℕ
+rowNumber none = 0
+rowNumber (some i) = i
+
+abbrev pub tableRowNumbers : TableRow → List ℕ
+tableRowNumbers t = rowFlag (t .row) ∷ rowNumber (t .row) ∷ t .replaced ∷ []
+
+-- the tags in turn: 1, 2, 3, 4, 6, 9
+abbrev pub inForceNumbers : InForce → List ℕ
+inForceNumbers u =
+    tableRowNumbers (u .lines) ++ tableRowNumbers (u .variables) ++ tableRowNumbers (u .functions) ++ tableRowNumbers (u .strings) ++ tableRowNumbers (u .files)
+    ++ tableRowNumbers (u .enumerations)
+
+-- what stands for a record in a lookup, and behind it the rows in force, which no lookup reads
+abbrev pub lookupNumbers : Container → List ℕ
+lookupNumbers c = headerNumbers (c .header) ++ taskCountNumbers (c .tasks) ++ typeCountNumbers (c .types) ++ (c .constants ∷ []) ++ debugCountNumbers (c .debug)
+
 abbrev pub recordNumbers : Container → List ℕ
-recordNumbers c = headerNumbers (c .header) ++ taskCountNumbers (c .tasks) ++ typeCountNumbers (c .types) ++ (c .constants ∷ []) ++ debugCountNumbers (c .debug)
+recordNumbers c = lookupNumbers c ++ inForceNumbers (c .inForce)

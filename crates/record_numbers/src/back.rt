@@ -14,6 +14,7 @@ use base::digest::NO_HASH;
 use base::section::Section;
 use debug_tables::DebugCounts;
 use debug_tables::MaybeDebug;
+use debug_tables::in_force::none_in_force;
 use header::FileHeader;
 use header::MAGIC;
 use header::Reserved;
@@ -209,7 +210,7 @@ fn debug_counts_by(n: &[u64; RECORD_NUMBERS]) -> MaybeDebug
     })
 }
 
-// The record of numbers that may not fit: what a field cannot hold is cut off.
+// The record of numbers that may not fit: what a field cannot hold is cut off. The rows in force are not read back.
 fn record_by(n: &[u64; RECORD_NUMBERS]) -> Container
     ensures { λ r. ⌜ containerIn r ≡ recordBy (lowAt (now (n .entry))) ⌝ }
 {
@@ -219,6 +220,7 @@ fn record_by(n: &[u64; RECORD_NUMBERS]) -> Container
         types: type_counts_by(n),
         constants: low_2(n[36]),
         debug: debug_counts_by(n),
+        in_force: none_in_force(),
     }
 }
 

@@ -4,17 +4,20 @@ pub mod back;
 ghost use mathlib.Core.Path.{_≡_};
 ghost use mathlib.Core.List.{[], _∷_};
 ghost use mathlib.Core.Option.{some};
-ghost use Rattle.debug_tables.specs.Answers.{debugCountsIn, maybeDebug};
+ghost use Rattle.debug_tables.specs.Answers.{debugCountsIn, maybeDebug, tableRowIn, rowsInForce};
 ghost use Rattle.header.specs.Answers.{headerIn, directoryIn, runtimeIn};
 ghost use Rattle.record.specs.Answers.{maybeTypes, containerIn};
 ghost use Rattle.task_table.specs.Answers.{taskCountsIn};
 ghost use Rattle.type_section.specs.Answers.{typeCountsIn};
-ghost use Rattle.record_numbers.specs.ToNumbers.{headNumbers, directoryNumbers, runtimeNumbers, taskCountNumbers, typeCountNumbers, debugCountNumbers};
+ghost use Rattle.record_numbers.specs.ToNumbers.{headNumbers, directoryNumbers, runtimeNumbers, taskCountNumbers, typeCountNumbers, debugCountNumbers, tableRowNumbers, inForceNumbers};
 ghost use Rattle.record_numbers.specs.FromNumbers.{most2, headMost, directoryMost, runtimeMost, taskCountMost, typeCountMost, debugCountMost};
 ghost use Rattle.record_numbers.specs.Answers.{AllAtMost};
 ghost use Rattle.record_numbers.specs.Laws.{Fits, Laws};
 use debug_tables::DebugCounts;
 use debug_tables::MaybeDebug;
+use debug_tables::in_force::MaybeRow;
+use debug_tables::in_force::RowsInForce;
+use debug_tables::in_force::TableRow;
 use header::FileHeader;
 use header::RuntimeParameters;
 use header::SectionDirectory;
@@ -23,7 +26,7 @@ use record::MaybeTypes;
 use task_table::TaskCounts;
 use type_section::TypeCounts;
 
-// The numbers of a record, with the 0 in front of them.
+// The numbers that stand for a record, with the 0 in front of them.
 pub const RECORD_NUMBERS: usize = 44;
 
 // The 0, then version, profile and flags.
@@ -106,6 +109,49 @@ pub fn debug_counts(debug: MaybeDebug) -> [u64; 7]
             d.enumerations as u64,
         ],
     }
+}
+
+// Of one tag: 1 and the row, or 0 and 0; then the replaced count.
+fn table_row(t: TableRow) -> [u64; 3]
+    ensures { λ r. ⌜ r ≡ tableRowNumbers (tableRowIn t) ⌝ }
+{
+    let row = t.row;
+    match row {
+        MaybeRow::None => [0, 0, t.replaced as u64],
+        MaybeRow::At(i) => [1, i as u64, t.replaced as u64],
+    }
+}
+
+// The rows in force, three numbers for each tag.
+pub fn in_force(u: RowsInForce) -> [u64; 18]
+    ensures { λ r. ⌜ r ≡ inForceNumbers (rowsInForce u) ⌝ }
+{
+    let a = table_row(u.lines);
+    let b = table_row(u.variables);
+    let c = table_row(u.functions);
+    let d = table_row(u.strings);
+    let e = table_row(u.files);
+    let f = table_row(u.enumerations);
+    [
+        a[0],
+        a[1],
+        a[2],
+        b[0],
+        b[1],
+        b[2],
+        c[0],
+        c[1],
+        c[2],
+        d[0],
+        d[1],
+        d[2],
+        e[0],
+        e[1],
+        e[2],
+        f[0],
+        f[1],
+        f[2],
+    ]
 }
 
 // The numbers of every record fit their fields. Empty bodies: the contracts make the checker prove them.

@@ -191,6 +191,22 @@ pub fn loaded(c: &Container, q: &Question) -> Answer {
     }
 }
 
+/// For each tag the row in force, or `none`, and how many it replaced. The Rust keeps no rows: they are looked up in its debug section's
+/// directory, if it has loaded that section.
+fn in_force(file: &[u8], c: &Container) -> String {
+    let section = match c.debug_section {
+        Some(_) => &file[c.header.debug_section_offset as usize..],
+        None => &[0, 0],
+    };
+    let number = |at: usize| u16::from_le_bytes([section[at], section[at + 1]]);
+    let rows: Vec<u16> = (0..number(0) as usize).map(|i| number(2 + 8 * i)).collect();
+    let of_tag = |tag: u16| match rows.iter().rposition(|t| *t == tag) {
+        Some(row) => format!("{row}+{}", rows[..row].iter().filter(|t| **t == tag).count()),
+        None => "none+0".to_string(),
+    };
+    [1, 2, 3, 4, 6, 9].map(of_tag).join(" ")
+}
+
 /// The line of an answer: the question's text, a colon, the answer.
 pub fn answer(file: &[u8], reading: &Reading, q: &Question) -> String {
     let said = match (q.lookup, reading) {
@@ -201,6 +217,7 @@ pub fn answer(file: &[u8], reading: &Reading, q: &Question) -> String {
             let header: &[u8; HEADER_SIZE] = file[..HEADER_SIZE].try_into().expect("256 bytes");
             Ok(hex(&masked_header(header)))
         }
+        ("in_force", Reading::Loaded(c)) => Ok(in_force(file, c)),
         (_, Reading::Loaded(c)) => loaded(c, q),
         _ => Err("not loaded".to_string()),
     };

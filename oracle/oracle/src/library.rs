@@ -1,7 +1,7 @@
 //! The port as a static library: its C functions (include/nurqeshil.h), and their numbers as the text of an answer.
 
 use crate::bytes::hex;
-use crate::records::{CONSTANTS, DEBUG, FUNCTIONS, LOADED, PLACES, TASKS, TYPES};
+use crate::records::{CONSTANTS, DEBUG, FUNCTIONS, PLACES, RECORD, TASKS, TYPES};
 #[cfg(feature = "library")]
 use crate::{functions::*, port::Reply, questions::Question, records};
 
@@ -119,6 +119,9 @@ pub fn text(file: &[u8], lookup: &str, said: &[u64]) -> String {
 /// Where the code section's size is in a record.
 const CODE_SIZE: usize = PLACES + 11;
 
+/// The numbers of a file that loads: those of the record, and three for each of the six tags.
+const LOADED: usize = RECORD + 18;
+
 fn joined(numbers: &[u64]) -> String {
     numbers.iter().map(u64::to_string).collect::<Vec<_>>().join(" ")
 }
@@ -129,6 +132,15 @@ fn counts(said: &[u64]) -> String {
         [1, counts @ ..] => joined(counts),
         [0, counts @ ..] if counts.iter().all(|n| *n == 0) => "none".to_string(),
         _ => format!("not counts: {said:?}"),
+    }
+}
+
+/// A tag's row in force, or none, and how many it replaced.
+fn row(said: &[u64]) -> String {
+    match said {
+        [1, row, replaced] => format!("{row}+{replaced}"),
+        [0, 0, replaced] => format!("none+{replaced}"),
+        _ => format!("not a row: {said:?}"),
     }
 }
 
@@ -152,7 +164,8 @@ pub fn loaded_text(file: &[u8], lookup: &str, said: &[u64], content_hash: &str) 
             let bytecode = said[CODE_SIZE].wrapping_sub(16 * said[FUNCTIONS]);
             format!("{} {bytecode}", said[FUNCTIONS])
         }
-        _ => counts(&said[DEBUG..LOADED]),
+        "in_force" => said[RECORD..].chunks(3).map(row).collect::<Vec<_>>().join(" "),
+        _ => counts(&said[DEBUG..RECORD]),
     }
 }
 
@@ -230,7 +243,7 @@ mod linked {
     fn own(file: &[u8], loaded: &[u64], kind: u16, q: &Question) -> String {
         let (i, j) = (index(q, 0), index(q, 1));
         let said = asked(file, kind, i, j);
-        if looked_up(file, loaded, kind, i, j) != said {
+        if looked_up(file, loaded, kind, i, j) != said || looked_up(file, &loaded[..RECORD], kind, i, j) != said {
             return "container_lookup and container_ask differ".to_string();
         }
         if q.lookup == "line" && line(file, i, j) != said {
@@ -266,7 +279,7 @@ mod linked {
             numbers
         };
         let wrong = [
-            loaded[..LOADED - 1].to_vec(),
+            loaded[..RECORD - 1].to_vec(),
             with(&[0], 1),
             with(&[1], 1 << 16),
             with(&[2], 1 << 8),
@@ -275,8 +288,8 @@ mod linked {
             with(&[TYPES], 2),
             with(&[TYPES, TYPES + 1], 0).iter().enumerate().map(|(i, n)| if i == TYPES + 2 { 1 } else { *n }).collect(),
             with(&[DEBUG], 2),
-            with(&[DEBUG], 0).iter().enumerate().map(|(i, n)| if i == LOADED - 1 { 1 } else { *n }).collect(),
-            with(&[LOADED - 1], u64::MAX),
+            with(&[DEBUG], 0).iter().enumerate().map(|(i, n)| if i == RECORD - 1 { 1 } else { *n }).collect(),
+            with(&[RECORD - 1], u64::MAX),
         ];
         let answered = wrong.iter().position(|numbers| !looked_up(file, numbers, 0, 0, 0).is_empty())?;
         Some(format!("numbers {answered} that stand for no record are answered\n"))
@@ -344,11 +357,13 @@ mod tests {
         said[CODE_SIZE] = 400;
         said[TYPES] = 1;
         said[DEBUG..].fill(0);
+        said[RECORD..RECORD + 6].copy_from_slice(&[1, 7, 2, 0, 0, 0]);
         assert_eq!(loaded_text(&file, "tasks", &said, "-"), "29 30 31");
         assert_eq!(loaded_text(&file, "types", &said, "-"), "33 34 35");
         assert_eq!(loaded_text(&file, "constants", &said, "-"), "36");
         assert_eq!(loaded_text(&file, "code", &said, "-"), "24 16");
         assert_eq!(loaded_text(&file, "debug", &said, "-"), "none");
+        assert_eq!(loaded_text(&file, "in_force", &said, "-"), "7+2 none+0 none+0 none+0 none+0 none+0");
         let header = loaded_text(&file, "header", &said, "hash");
         assert!(header.starts_with("50462976 1 2 3 hash 2829"));
         assert!(header.contains(" 4 5 6 7 8 9 10 11 12 13 14 400 16 17 18 19 "));
@@ -384,7 +399,7 @@ mod tests {
     /// Every question is a kind, or one of those that are answered otherwise or left out.
     #[test]
     fn every_lookup_has_a_way() {
-        let others = ["hash", "header", "tasks", "types", "constants", "code", "debug"];
+        let others = ["hash", "header", "tasks", "types", "constants", "code", "debug", "in_force"];
         for lookup in LOOKUPS {
             let ways = [KINDS.contains(&lookup), others.contains(&lookup), LEFT_OUT.contains(&lookup)];
             assert_eq!(ways.iter().filter(|way| **way).count(), 1, "{lookup}");

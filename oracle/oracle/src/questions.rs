@@ -8,10 +8,10 @@ use crate::prng::Prng;
 use crate::reading::Reading;
 
 /// Every lookup, once.
-pub const LOOKUPS: [&str; 35] = [
+pub const LOOKUPS: [&str; 36] = [
     "hash", "utf8", "masked_header", "header", "tasks", "task", "program", "types", "fb_type", "field", "array",
     "array_size", "user_fb", "constants", "constant", "get_i32", "get_u32", "get_i64", "get_u64", "get_f32", "get_f64",
-    "get_str", "char_width", "code", "function", "bytecode", "debug", "line_entry", "line", "variable",
+    "get_str", "char_width", "code", "function", "bytecode", "debug", "in_force", "line_entry", "line", "variable",
     "function_name", "string_layout", "source_file", "enumeration", "enumeration_value",
 ];
 
@@ -109,6 +109,7 @@ impl Asking {
         let none = DebugSection::default();
         let d = debug.unwrap_or(&none);
         self.ask("debug", &[]);
+        self.ask("in_force", &[]);
         self.each(&["line_entry"], d.line_map.len());
         self.lines(debug);
         self.each(&["variable"], d.var_names.len());
@@ -162,7 +163,7 @@ impl Asking {
 }
 
 /// The questions that are about more than one entry of a table.
-const WHOLE_TABLES: [&str; 6] = ["header", "tasks", "types", "constants", "code", "debug"];
+const WHOLE_TABLES: [&str; 7] = ["header", "tasks", "types", "constants", "code", "debug", "in_force"];
 
 /// Lookups in the tables of a container; a missing table is asked at index 0.
 pub fn of_tables(c: &Container, seed: u64) -> Vec<Question> {

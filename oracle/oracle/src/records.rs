@@ -18,11 +18,11 @@ use crate::questions::{self, Question};
 use crate::reading::{directory_and_runtime, read, refusal, Reading, LIMIT};
 
 /// A record as `container_load` writes it: a 0, then version, profile, flags, seven places, eleven runtime numbers, and counts, at
-/// these places.
+/// these places. The rows in force follow, which no lookup reads.
 #[derive(Clone)]
 pub struct Record(pub Vec<u64>);
 
-pub const LOADED: usize = 44;
+pub const RECORD: usize = 44;
 pub const PLACES: usize = 4;
 pub const FUNCTIONS: usize = 24;
 pub const TASKS: usize = 29;
@@ -61,8 +61,8 @@ impl Record {
             let names = [d.line_map.len(), d.var_names.len(), d.func_names.len()];
             [names, [d.string_layouts.len(), d.source_files.len(), d.enum_defs.len()]].concat()
         });
-        numbers.extend(counted(debug, LOADED - DEBUG));
-        assert_eq!(numbers.len(), LOADED, "the numbers of a record");
+        numbers.extend(counted(debug, RECORD - DEBUG));
+        assert_eq!(numbers.len(), RECORD, "the numbers of a record");
         Record(numbers)
     }
 

@@ -1,6 +1,8 @@
 -- `container::read_sections` meets its contract: the sections in turn, and the first refusal decides.
+use mathlib.Core.Path.{_∙_}
 use denote.Ref.{now}
 use Rattle.header.specs.Answers.{headerIn}
+use Rattle.container.proofs.Parts.{rows-found}
 use Rattle.container.proofs.Loading.{tasks-refused, types-refused, constants-refused, code-refused, all-found}
 use borrow.Author.Needs.{needs}
 use Rattle.container.proofs.read_sections.Statement.{statement}
@@ -35,12 +37,15 @@ returns-4 c =
 
 returns-5 : tie.Need-returns-5
 returns-5 c =
-    all-found (now (c .before .before .before .before .before .before .before .before .before .before .before .before .before .before .before .before .before .args .file)) (headerIn (c .before .before .before .before .before .before .before .before .before .before .before .before .before .before .before .before .before .args .header)) (c .before .before .before .before .before .before .before .before .before .before .before .before .before .before .before .before .before .pre)
-    (rw (c .before .before .before .before .before .before .before .before .before .before .before .before .before .c .given .1) at (c .before .before .before .before .before .before .before .before .before .before .before .before .before .before .before .tasks-at .ensures))
-    (rw (c .before .before .before .before .before .before .before .before .before .t .given .1) at (c .before .before .before .before .before .before .before .before .before .before .before .types-of .ensures))
-    (rw (c .before .before .before .before .before .n .given .1) at (c .before .before .before .before .before .before .before .constants-at .ensures))
-    (rw (c .before .enum-told .given .1) at (c .before .before .before .code-at .ensures))
-    (c .debug-of .ensures)
+    let s = c .before .before .before .before .before .before .before .before .before .before .before .before .before .before .before .before .before .before in
+    let f = now (s .args .file) in
+    let h = headerIn (s .args .header) in
+    all-found f h (s .pre) (rw (c .before .before .before .before .before .before .before .before .before .before .before .before .before .before .c .given .1) at (c .before .before .before .before .before .before .before .before .before .before .before .before .before .before .before .before .tasks-at .ensures))
+    (rw (c .before .before .before .before .before .before .before .before .before .before .t .given .1) at (c .before .before .before .before .before .before .before .before .before .before .before .before .types-of .ensures))
+    (rw (c .before .before .before .before .before .before .n .given .1) at (c .before .before .before .before .before .before .before .before .constants-at .ensures))
+    (rw (c .before .before .enum-told .given .1) at (c .before .before .before .before .code-at .ensures))
+    (c .before .debug-of .ensures)
+    (c .in-force-of .ensures ∙ rows-found f h (s .pre .short) (c .before .debug-of .ensures))
 
 pub read-sections-spec : {M : Type 1} → statement M
 read-sections-spec =
@@ -62,5 +67,6 @@ read-sections-spec =
     (λ c. search needs)
     (λ c. search needs)
     debug-of-requires
+    (λ c κs. search needs)
     returns-4
     returns-5)

@@ -8,7 +8,7 @@ use Rattle.reading.proofs.Passing.{reads-told}
 use Rattle.reading.proofs.Given.{reads-at}
 use Rattle.debug_tables.specs.Starts.{payloadStart}
 use Rattle.debug_tables.specs.Answers.{kindIn, payloadStep}
-use Rattle.debug_tables.proofs.Rows.{RowsDone, read-short, read-few, none-done, all-done, row-stops, row-done}
+use Rattle.debug_tables.proofs.Rows.{RowsDone, no-count, few-rows, read-short, none-done, all-done, row-stops, row-done}
 use Rattle.debug_tables.proofs.Payloads.{stays-start}
 use borrow.Author.Needs.{needs}
 use Rattle.debug_tables.proofs.read_tables.Statement.{statement}
@@ -21,12 +21,12 @@ abbrev μ-loop : tie.MeasureT-loop
 μ-loop s n p₀ tables₀ i₀ p tables i = n - i
 
 returns : tie.Need-returns Inv-loop μ-loop
-returns c = read-short (now (c .before .before .args .s)) (c .if1 .taken)
+returns c = let s = now (c .before .before .args .s) in read-short s (no-count s (c .if1 .taken))
 
 returns-2 : tie.Need-returns-2 Inv-loop μ-loop
 returns-2 c =
-    let a = c .before .before .before .before .args in
-    read-few (now (a .s)) (c .before .u16-at .result) (omega arith) (c .before .u16-at .ensures) (c .if2 .taken)
+    let s = now (c .before .before .before .before .args .s) in
+    read-short s (few-rows s (c .before .u16-at .result) (omega arith) (c .before .u16-at .ensures) (c .if2 .taken))
 
 loop-holds : tie.Need-loop-holds Inv-loop μ-loop
 loop-holds c =
