@@ -7,13 +7,13 @@ use native.Mathlib.Nat.{add-zero}
 use native.Mathlib.Omega.{arith}
 use lib.Dec.{eqb}
 use lib.ListN.{length, take, drop}
-use borrow.Author.Tests.{eqb-true}
 use Rattle.reading.specs.Fault.{shortInput}
 use Rattle.reading.specs.Numbers.{leAt}
 use Rattle.reading.specs.Reader.{fault, got, bytes, many}
 use Rattle.reading.proofs.Reading.{bytes-at, number-at}
-use Rattle.format.specs.Debug.{Row, tagOf, Kind, kindOf, rowsOf}
+use Rattle.format.specs.Debug.{Row, tagOf, Kind, unknown, kindOf, rowsOf}
 use Rattle.format.specs.InForce.{InForce, rowsWith, lastOf, tableRow, inForceOf, noneInForce, inForceBy, inForceIn}
+use Rattle.format.proofs.InForce.{number, of-each, listed, other-tag}
 use Rattle.debug_tables.specs.Answers.{rowsInForce}
 use Rattle.debug_tables.specs.LaterRows.{laterRow, putRow, FewReplaced}
 use Rattle.debug_tables.specs.declared.in_force.RowsInForce.{RowsInForce}
@@ -85,74 +85,29 @@ each tag i u =
       enumerations = cond (eqb tag 9) (laterRow (u .enumerations) i) (u .enumerations);
     }
 
-module _ (i : ℕ) (u : InForce) where
-  abbrev Puts : ℕ → Type 0
-  Puts tag = each tag i u ≡ putRow (kindOf tag) i u
+-- a row of a kind puts itself in force for that kind alone
+module _ (tag i : ℕ) (u : InForce) where
+  abbrev Puts : Kind → Type 0
+  Puts k = kindOf tag ≡ k → (0 < number k → number k ≡ tag) → each tag i u ≡ putRow k i u
 
-  puts-1 : Puts 1
+  none-puts : kindOf tag ≡ unknown → each tag i u ≡ u
   unfolding kindOf
-  puts-1 = refl
+  none-puts h =
+      rw (other-tag 1 (omega arith) tag h, other-tag 2 (omega arith) tag h, other-tag 3 (omega arith) tag h, other-tag 4 (omega arith) tag h, other-tag 6 (omega arith) tag h, other-tag 9 (omega arith) tag h)
 
-  puts-2 : Puts 2
-  unfolding kindOf
-  puts-2 = refl
+  of-tag : (n : ℕ) → n ≡ tag → each tag i u ≡ each n i u
+  of-tag n e = ap (λ (t : ℕ). each t i u) (sym e)
 
-  puts-3 : Puts 3
-  unfolding kindOf
-  puts-3 = refl
-
-  puts-4 : Puts 4
-  unfolding kindOf
-  puts-4 = refl
-
-  puts-6 : Puts 6
-  unfolding kindOf
-  puts-6 = refl
-
-  puts-9 : Puts 9
-  unfolding kindOf
-  puts-9 = refl
-
-  module _ (tag : ℕ) where
-    puts-none : eqb tag 1 ≡ false → eqb tag 2 ≡ false → eqb tag 3 ≡ false → eqb tag 4 ≡ false → eqb tag 6 ≡ false → eqb tag 9 ≡ false → Puts tag
-    unfolding kindOf
-    puts-none a b c d e f = rw (a, b, c, d, e, f)
-
-    is : (k : ℕ) → eqb tag k ≡ true → Puts k → Puts tag
-    is k e p = subst Puts (sym (eqb-true tag k e)) p
-
-    puts : Puts tag
-    puts = on-1 (eqb tag 1) refl
-      where
-        on-9 : (z : Bool) → eqb tag 9 ≡ z → eqb tag 1 ≡ false → eqb tag 2 ≡ false → eqb tag 3 ≡ false → eqb tag 4 ≡ false → eqb tag 6 ≡ false → Puts tag
-        on-9 true e h1 h2 h3 h4 h6 = is 9 e puts-9
-        on-9 false e h1 h2 h3 h4 h6 = puts-none h1 h2 h3 h4 h6 e
-
-        on-6 : (z : Bool) → eqb tag 6 ≡ z → eqb tag 1 ≡ false → eqb tag 2 ≡ false → eqb tag 3 ≡ false → eqb tag 4 ≡ false → Puts tag
-        on-6 true e h1 h2 h3 h4 = is 6 e puts-6
-        on-6 false e h1 h2 h3 h4 = on-9 (eqb tag 9) refl h1 h2 h3 h4 e
-
-        on-4 : (z : Bool) → eqb tag 4 ≡ z → eqb tag 1 ≡ false → eqb tag 2 ≡ false → eqb tag 3 ≡ false → Puts tag
-        on-4 true e h1 h2 h3 = is 4 e puts-4
-        on-4 false e h1 h2 h3 = on-6 (eqb tag 6) refl h1 h2 h3 e
-
-        on-3 : (z : Bool) → eqb tag 3 ≡ z → eqb tag 1 ≡ false → eqb tag 2 ≡ false → Puts tag
-        on-3 true e h1 h2 = is 3 e puts-3
-        on-3 false e h1 h2 = on-4 (eqb tag 4) refl h1 h2 e
-
-        on-2 : (z : Bool) → eqb tag 2 ≡ z → eqb tag 1 ≡ false → Puts tag
-        on-2 true e h1 = is 2 e puts-2
-        on-2 false e h1 = on-3 (eqb tag 3) refl h1 e
-
-        on-1 : (z : Bool) → eqb tag 1 ≡ z → Puts tag
-        on-1 true e = is 1 e puts-1
-        on-1 false e = on-2 (eqb tag 2) refl e
+  puts : each tag i u ≡ putRow (kindOf tag) i u
+  puts =
+      of-each Puts (λ h l. of-tag 1 (l (omega arith))) (λ h l. of-tag 2 (l (omega arith))) (λ h l. of-tag 3 (l (omega arith))) (λ h l. of-tag 4 (l (omega arith)))
+      (λ h l. of-tag 6 (l (omega arith))) (λ h l. of-tag 9 (l (omega arith))) (λ h l. none-puts h) (kindOf tag) refl (listed tag)
 
 -- one more row
 in-force-more : (rows : List Row) (row : Row) → inForceOf (rows ++ (row ∷ [])) ≡ putRow (kindOf (tagOf row)) (length rows) (inForceOf rows)
 in-force-more rows row =
     rw (one-more 1 rows row, one-more 2 rows row, one-more 3 rows row, one-more 4 rows row, one-more 6 rows row, one-more 9 rows row)
-    (puts (length rows) (inForceOf rows) (tagOf row))
+    (puts (tagOf row) (length rows) (inForceOf rows))
 
 -- The section's rows
 

@@ -23,6 +23,7 @@ use Rattle.format.specs.Lookups.{debugIn}
 use Rattle.format.specs.Examples.{mill, millMore}
 use Rattle.format.proofs.Answers.{absent, same-found, same-some, steps}
 use Rattle.format.proofs.Loads.{facts, debug-read}
+use Rattle.format.proofs.InForce.{number, of-each, listed}
 use Rattle.format.proofs.Examples.{second-half-not-vacuous}
 use Rattle.requests.specs.RowsInForce.{countOf, LastWith, RowInForce, SixTags, tableAs, TableOfRow, TablesOfRows, RowsOfSection, allAbsent, LoadedRows, RowsUnread, CountsCovered, RowsShift, onlyLines}
 use Rattle.requests.proofs.RowsInForceExamples.{in-force-examples, shifted}
@@ -90,16 +91,6 @@ six-tags rows =
 
 -- Kinds and their tables
 
--- a number for each kind: its tag, and 0 for those that are not listed
-abbrev number : Kind → ℕ
-number lines = 1
-number variables = 2
-number functions = 3
-number strings = 4
-number files = 6
-number enumerations = 9
-number unknown = 0
-
 -- the kind of a payload
 abbrev payloadKind : {T : Type 0} → Payload T → Kind
 payloadKind (ofLines es) = lines
@@ -109,16 +100,6 @@ payloadKind (ofStrings es) = strings
 payloadKind (ofFiles es) = files
 payloadKind (ofEnumerations es) = enumerations
 payloadKind skipped = unknown
-
--- a law of all kinds, kind by kind
-of-each : (P : Kind → Type 0) → P lines → P variables → P functions → P strings → P files → P enumerations → P unknown → (k : Kind) → P k
-of-each P a b c d e f g lines = a
-of-each P a b c d e f g variables = b
-of-each P a b c d e f g functions = c
-of-each P a b c d e f g strings = d
-of-each P a b c d e f g files = e
-of-each P a b c d e f g enumerations = f
-of-each P a b c d e f g unknown = g
 
 -- a payload becomes the table of its own kind, and leaves the others as they are
 abbrev Puts : {T : Type 0} → Payload T → Tables T → Kind → Type 0
@@ -153,24 +134,7 @@ no-table t u =
     of-each (λ k. number k ≡ 0 → tableAs k t ≡ tableAs k u) (λ e. absurd (omega arith)) (λ e. absurd (omega arith)) (λ e. absurd (omega arith))
     (λ e. absurd (omega arith)) (λ e. absurd (omega arith)) (λ e. absurd (omega arith)) (λ e. refl)
 
--- the number of a listed kind is its tag
-module _ (tag : ℕ) where
-  abbrev Listed : Kind → Type 0
-  Listed k = 0 < number k → number k ≡ tag
-
-  or-else : (k rest : Kind) → Listed rest → Listed (cond (eqb tag (number k)) k rest)
-  or-else k rest h = go (eqb tag (number k)) refl
-    where
-      go : (z : Bool) → eqb tag (number k) ≡ z → Listed (cond z k rest)
-      go true e l = sym (eqb-true tag (number k) e)
-      go false e l = h l
-
-  listed : Listed (kindOf tag)
-  unfolding kindOf
-  listed =
-      or-else lines _ (or-else variables _ (or-else functions _ (or-else strings _ (or-else files _ (or-else enumerations unknown (λ l. absurd (omega arith)))))))
-
--- so two tags of one listed kind are equal
+-- two tags of one listed kind are equal
 same-tag : (a b : ℕ) → 0 < number (kindOf b) → number (kindOf a) ≡ number (kindOf b) → a ≡ b
 same-tag a b l e = let h = listed a (omega arith) in let g = listed b l in omega arith
 

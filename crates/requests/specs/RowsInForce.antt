@@ -91,11 +91,12 @@ pub record RowsOfSection (s : List ℕ) (c : DebugCounts) (u : InForce) : Type 0
   pub counts : c ≡ tableCounts tables
   pub told : u ≡ inForceOf rows
 
--- six times absent and 0
+-- absent and 0, and this six times
+abbrev pub absentRow : TableRow
+absentRow = record { row = none; replaced = 0 }
+
 abbrev pub allAbsent : InForce
-allAbsent =
-    let absent : TableRow = record { row = none; replaced = 0 } in
-    record { lines = absent; variables = absent; functions = absent; strings = absent; files = absent; enumerations = absent }
+allAbsent = record { lines = absentRow; variables = absentRow; functions = absentRow; strings = absentRow; files = absentRow; enumerations = absentRow }
 
 pub record LoadedRows (hash : List ℕ → List ℕ) : Type 0 where
   pub debug : (f : List ℕ) (r : Container) (c : DebugCounts) → readFrom hash f ≡ found r → r .debug ≡ some c → RowsOfSection (cut f (r .header .directory .debug)) c (r .inForce)
@@ -139,14 +140,13 @@ pub record RowsShift (hash : List ℕ → List ℕ) : Type 0 where
 -- lines alone have a row
 abbrev pub onlyLines : ℕ → ℕ → InForce
 onlyLines i replaced =
-    let absent : TableRow = record { row = none; replaced = 0 } in
     record {
       lines = record { row = some i; replaced = replaced };
-      variables = absent;
-      functions = absent;
-      strings = absent;
-      files = absent;
-      enumerations = absent;
+      variables = absentRow;
+      functions = absentRow;
+      strings = absentRow;
+      files = absentRow;
+      enumerations = absentRow;
     }
 
 pub record InForceExamples (hash : List ℕ → List ℕ) : Type 0 where
