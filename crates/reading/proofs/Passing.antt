@@ -7,7 +7,7 @@ use native.Mathlib.Omega.{arith}
 use lib.ListN.{length, drop, length-drop}
 use Rattle.reading.specs.Fault.{Fault, short_input}
 use Rattle.reading.specs.Numbers.{le_at}
-use Rattle.reading.specs.Reader.{fault, got, Reader, next, ◌>>=◌, give, many, counted}
+use Rattle.reading.specs.Reader.{fault, got, Reader, ◌>>=◌, give, many, counted}
 use Rattle.reading.specs.Places.{Step, stops, item, Reads, Way, stops_by, on_to, Goes}
 use Rattle.reading.proofs.Reading.{number_at, number_short}
 

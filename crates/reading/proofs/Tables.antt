@@ -12,7 +12,7 @@ use Rattle.reading.specs.Fault.{Fault}
 use Rattle.reading.specs.Numbers.{le_at}
 use Rattle.reading.specs.Reader.{Read, fault, got, Reader, next, give, number, many, counted}
 use Rattle.reading.specs.Answer.{Got, refused, found, indexed}
-use Rattle.reading.specs.Places.{Step, stops, item, Reads, on_to, Goes, Holds, ends, entry}
+use Rattle.reading.specs.Places.{Step, stops, item, Reads, on_to, Goes, Holds}
 use Rattle.reading.specs.declared.Table.{Table}
 use Rattle.reading.proofs.Le.{Bytes}
 use Rattle.reading.proofs.Reading.{never, both, number_fits}

@@ -1,4 +1,6 @@
 // Numbers at a place of a slice, low byte first, and the place of a table.
+#![tactic(auto)]
+
 ghost use Rattle.std.specs.Prelude.{◌≡◌, ◌+◌, ◌≤◌, ◌<◌, length};
 ghost use Rattle.reading.specs.Numbers.{le_at};
 

@@ -59,6 +59,7 @@ behind (r ∷ row) s = cond (starts row s) (suc (length row)) 0
 
 -- a byte that leads one of the rows is not in `q`
 past : (q : Range) (rows : List (List Range)) (row : List Range) (b : ℕ) → T (clear q rows) → Memᴰ row rows → leads row b → within q b ≡ false
+past q [] row b t m l = elim m [ ]
 past q ([] ∷ rows) row b t m l = absurd t
 past q ((r ∷ tail) ∷ rows) row b t (Memᴰ.head e) l =
     let k : leads (r ∷ tail) b = rw e at l in
@@ -67,6 +68,7 @@ past q ((r ∷ tail) ∷ rows) row b t (Memᴰ.tail m) l = past q rows row b (se
 
 -- the table says what the row of the lead byte says
 lead-in : (rows : List (List Range)) (row : List Range) (b : ℕ) (s : List ℕ) → T (disjoint rows) → Memᴰ row rows → leads row b → first_of rows (b ∷ s) ≡ behind row s
+lead-in [] row b s t m l = elim m [ ]
 lead-in ([] ∷ rows) row b s t m l = absurd t
 lead-in ((r ∷ tail) ∷ rows) row b s t (Memᴰ.head e) l =
     let k : leads (r ∷ tail) b = rw e at l in

@@ -1,4 +1,6 @@
 // UTF-8, by Unicode's table of well-formed byte sequences (The Unicode Standard, table 3-7).
+#![tactic(auto)]
+
 ghost use Rattle.std.specs.Prelude.{false, cond, [], ◌∷◌, ◌≡◌, ◌+◌, ◌≤◌, ◌<◌, length, drop, replicate};
 ghost use Rattle.utf8.specs.Laws.{Laws};
 ghost use Rattle.utf8.specs.Utf8.{◌to◌, starts, sequence_at, valid_up_to, Reached, utf8};
