@@ -9,7 +9,7 @@ use lib.Dec.{leb}
 use lib.ListN.{length, take, drop, replicate, length-drop}
 use Rattle.utf8.specs.Utf8.{utf8}
 use Rattle.reading.specs.Fault.{Fault}
-use Rattle.reading.specs.Reader.{Read, fault, got, Reader, next, ◌>>=◌, ◌>>◌, give, check, left, bytes, number, many, counted}
+use Rattle.reading.specs.Reader.{Read, fault, got, Reader, next, ◌>>=◌, give, check, left, bytes, number, many, counted}
 use Rattle.reading.proofs.Reading.{bytes-at, bytes-short}
 use Rattle.reading.proofs.Left.{LeftOf, left-taken}
 use Rattle.reading.proofs.Local.{Local, local-check, local-bytes, local-number, local_counted}

@@ -303,7 +303,7 @@ types-only f h =
 loading : (hash : List ℕ → List ℕ) (f : List ℕ) → Only OfLoading (load hash f)
 unfolding load
 loading hash f =
-    only_then OfLoading _ (need (leb (length f) limit) too_long) (only-need OfLoading (leb (length f) limit) too_long OfLoading.too_long) λ a.
+    only_then OfLoading _ (need (leb (length f) limit) too_long) (only-need OfLoading (leb (length f) limit) too_long OfLoading.too-long) λ a.
     only_then OfLoading _ (header_of f) (header-only f) λ h.
     only_then OfLoading _ (content_fits hash f h) (content-only hash f h) λ b.
     only_then OfLoading _ (read_in f h.directory.tasks task_table)
@@ -318,7 +318,7 @@ loading hash f =
 
 module _ (Own Out : Fault → Type 0) where
   limit-only : (f : List ℕ) → Only (InSection Own Out) (need (leb (length f) limit) too_long)
-  limit-only f = only-need (InSection Own Out) (leb (length f) limit) too_long InSection.too_long
+  limit-only f = only-need (InSection Own Out) (leb (length f) limit) too_long InSection.too-long
 
   pub at_only : {A : Type 0} (f : List ℕ) (p : Place) (r : Reader A) → Each Own r → Only (InSection Own Out) (read_at f p r)
   unfolding read_at
@@ -337,7 +337,7 @@ types-by-only Out absent f p (some c) = at_only OfTypes Out f p type_tables each
 
 module _ (Out : Fault → Type 0) where
   debug-limit-only : (f : List ℕ) → Only (InDebug Out) (need (leb (length f) limit) too_long)
-  debug-limit-only f = only-need (InDebug Out) (leb (length f) limit) too_long InDebug.too_long
+  debug-limit-only f = only-need (InDebug Out) (leb (length f) limit) too_long InDebug.too-long
 
   no-debug-only : {A : Type 0} (x : Got A) → Only (InDebug Out) (or_no_debug x)
   no-debug-only (refused r) = InDebug.no-debug
@@ -454,7 +454,7 @@ line-only : (function offset : ℕ) (es : List Line) → Only OfSourceLine (line
 unfolding line_for
 line-only function offset es =
     only_then OfSourceLine _ (need (sorted es) unsorted_map) (only-need OfSourceLine (sorted es) unsorted_map OfSourceLine.unsorted)
-    (λ u. only-present OfSourceLine no_line (best_of function offset none es) OfSourceLine.no_line)
+    (λ u. only-present OfSourceLine no_line (best_of function offset none es) OfSourceLine.no-line)
 
 array-only : (i : ℕ) (t : TypeTables) → Only OfArray (array_of i t)
 array-only i t = only-indexed OfArray no_array t.arrays i OfArray.no-array

@@ -283,7 +283,7 @@ record Section {A : Type 0} (Own : Fault → Type 0) (look : List ℕ → Contai
 -- a lookup refuses that, and what it adds
 module _ {A B : Type 0} (Own Out : Fault → Type 0) (look : List ℕ → Container → Got A) (k : Container → A → Got B) where
   in-section : Section Own look → ((e : Fault) → Out e → Refuses (λ f r. look f r >>= k r) e) → Given (InSection Own Out) (λ f r. look f r >>= k r)
-  in-section s out e InSection.too_long = (long, at_start, rw s.too-long)
+  in-section s out e InSection.too-long = (long, at_start, rw s.too-long)
   in-section s out e InSection.place = ([], at_start, rw s.place)
   in-section s out e (InSection.section o) = then-refuses look k e (s.own e o)
   in-section s out e (InSection.lookup o) = out e o
@@ -447,7 +447,7 @@ abbrev tables_in : List ℕ → Container → Got (Tables Place)
 tables_in = debug_in by_place
 
 in-debug : {B : Type 0} (Out : Fault → Type 0) (k : Tables Place → Got B) → ((e : Fault) → Out e → Refuses (λ f r. tables_in f r >>= k) e) → Given (InDebug Out) (λ f r. tables_in f r >>= k)
-in-debug Out k out e InDebug.too_long = (long, at_start, rw (order.limit-first long at_start long-is).debug)
+in-debug Out k out e InDebug.too-long = (long, at_start, rw (order.limit-first long at_start long-is).debug)
 in-debug Out k out e InDebug.no-debug = ([], bare, rw ((order.absence-then [] bare (lit≤ tt)).debug refl))
 in-debug Out k out e (InDebug.lookup o) = out e o
 
@@ -471,7 +471,7 @@ first_line t = line_for 0 0 t.lines
 line-out : (e : Fault) → OfSourceLine e → Refuses (λ f r. tables_in f r >>= first_line) e
 unfolding debug_tables rows_of payload_of tag_of size_of kind_of line bytes le line_for sorted
 line-out e OfSourceLine.unsorted = from-section tables_in (λ r. first_line) falling 0 _ unsorted_map (debug-read falling 0 (lit≤ tt)) refl
-line-out e OfSourceLine.no_line = from-section tables_in (λ r. first_line) (replicate 2 0) 0 (found no_tables) no_line debug-none refl
+line-out e OfSourceLine.no-line = from-section tables_in (λ r. first_line) (replicate 2 0) 0 (found no_tables) no_line debug-none refl
 
 -- All lookups
 
@@ -584,7 +584,7 @@ module _ (hash : List ℕ → List ℕ) where
 
   pub loading-given : (e : Fault) → OfLoading e → Turned e
   unfolding load header_of runtime_of directory_of le bytes content_fits read_in section_in is_inside task_table types_found has_types constants code_of
-  loading-given e OfLoading.too_long = (long, load-long long long-is)
+  loading-given e OfLoading.too-long = (long, load-long long long-is)
   loading-given e OfLoading.short-header = ([], refl)
   loading-given e OfLoading.magic = (replicate 256 0, refl)
   loading-given e OfLoading.version = (magic_only, refl)

@@ -17,7 +17,7 @@ use Rattle.format.specs.Faults.{no_debug}
 use Rattle.format.specs.Parts.{Place, cut, Inside, by_bytes}
 use Rattle.format.specs.Header.{Header}
 use Rattle.format.specs.Integrity.{debug_hash_fits}
-use Rattle.format.specs.Debug.{Row, unknown, payload, tag_of, size_of, kind_of, payload_of, tables_of, skipped, Tables, no_tables, put, rows_of, debug_tables}
+use Rattle.format.specs.Debug.{Row, unknown, tag_of, size_of, kind_of, payload_of, tables_of, skipped, Tables, no_tables, put, rows_of, debug_tables}
 use Rattle.format.specs.InForce.{in_force_by, in_force_in, in_force_with, replaced_counts}
 use Rattle.format.specs.Load.{load, readable, debug_of, debug_found}
 use Rattle.format.specs.Record.{Container, debug_counts, record_of}

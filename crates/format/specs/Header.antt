@@ -2,7 +2,7 @@
 use Rattle.std.specs.Prelude.{ℕ, ◌+◌, ◌-◌, ◌*◌, ◌/◌, ◌%◌, Bool, List, leb, eqb, length}
 use Rattle.reading.specs.Fault.{short_input}
 use Rattle.reading.specs.Numbers.{le_at}
-use Rattle.reading.specs.Answer.{Got, found, ◌>>=◌, ◌>>◌, need}
+use Rattle.reading.specs.Answer.{Got, found, ◌>>◌, need}
 use Rattle.format.specs.Faults.{invalid_magic, unsupported_version}
 use Rattle.format.specs.Parts.{header_size, hash_size, part, Place}
 

@@ -37,7 +37,7 @@ pub data OfCode : Fault → Type 0 where
 -- Loading a file
 
 pub data OfLoading : Fault → Type 0 where
-  too_long : OfLoading too_long
+  too-long : OfLoading too_long
   short-header : OfLoading short_input
   magic : OfLoading invalid_magic
   version : OfLoading unsupported_version
@@ -50,14 +50,14 @@ pub data OfLoading : Fault → Type 0 where
 
 -- A lookup in tasks, types, constants or code: 10, 4, the section's own refusals, and those of the lookup in its tables
 pub data InSection (Own Out : Fault → Type 0) : Fault → Type 0 where
-  too_long : InSection Own Out too_long
+  too-long : InSection Own Out too_long
   place : InSection Own Out section_size_mismatch
   section : {f : Fault} → Own f → InSection Own Out f
   lookup : {f : Fault} → Out f → InSection Own Out f
 
 -- A lookup in the debug tables: 10, 15, and those of the lookup in its tables
 pub data InDebug (Out : Fault → Type 0) : Fault → Type 0 where
-  too_long : InDebug Out too_long
+  too-long : InDebug Out too_long
   no-debug : InDebug Out no_debug
   lookup : {f : Fault} → Out f → InDebug Out f
 

@@ -118,7 +118,7 @@ few-of-code : {f : Fault} → OfCode f → length (refusal_values f) ≤ 2
 few-of-code OfCode.short = omega arith
 
 few-values : {f : Fault} → OfLoading f → length (refusal_values f) ≤ 2
-few-values OfLoading.too_long = omega arith
+few-values OfLoading.too-long = omega arith
 few-values OfLoading.short-header = omega arith
 few-values OfLoading.magic = omega arith
 few-values OfLoading.version = omega arith
