@@ -31,7 +31,7 @@ use type_section::{ArrayAnswer, FbTypeAnswer, FieldAnswer, UserFbAnswer};
 pub const CAPACITY: usize = 12;
 
 // The first `count` of these numbers; zeros stand behind them.
-#[derive(Drop)]
+#[derive(Clone, Copy)]
 pub struct Numbers {
     pub numbers: [u64; CAPACITY],
     pub count: usize,

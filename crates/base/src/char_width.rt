@@ -2,7 +2,7 @@
 ghost use Rattle.std.specs.Prelude.{◌≡◌};
 ghost use Rattle.base.specs.Small.{byte_width, is_wide, char_width_from, char_width_of_byte};
 
-#[derive(Drop)]
+#[derive(Clone, Copy)]
 pub enum CharWidth {
     // STRING: Latin-1, one byte per character.
     Narrow,
@@ -11,7 +11,7 @@ pub enum CharWidth {
 }
 
 // A byte as a width: the width, or the byte if it is neither 1 nor 2.
-#[derive(Drop)]
+#[derive(Clone, Copy)]
 pub enum CharWidthAnswer {
     Invalid(u8),
     Width(CharWidth),

@@ -6,7 +6,7 @@ ghost use Rattle.base.specs.Small.{const_type_number, const_type_from, const_typ
 use crate::char_width::CharWidth;
 use crate::error::ContainerError;
 
-#[derive(Drop)]
+#[derive(Clone, Copy)]
 pub enum ConstType {
     I32,
     U32,
@@ -18,13 +18,13 @@ pub enum ConstType {
     WStr,
 }
 
-#[derive(Drop)]
+#[derive(Clone, Copy)]
 pub enum ConstTypeAnswer {
     Refused(ContainerError),
     Type(ConstType),
 }
 
-#[derive(Drop)]
+#[derive(Clone, Copy)]
 pub enum MaybeCharWidth {
     None,
     Some(CharWidth),

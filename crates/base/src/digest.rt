@@ -13,7 +13,7 @@ pub const HASH_LEN: usize = 32;
 // All zero: no digest.
 pub const NO_HASH: Digest = Digest(0, 0, 0, 0, 0, 0, 0, 0);
 
-#[derive(Drop)]
+#[derive(Clone, Copy)]
 pub struct Digest(
     pub u32,
     pub u32,

@@ -5,7 +5,7 @@ ghost use Rattle.base.specs.Error.{fault_of, refusal_number, kept_values, values
 
 use crate::id_types::ConstantIndex;
 
-#[derive(Drop)]
+#[derive(Clone, Copy)]
 pub enum ContainerError {
     ShortInput,
     InvalidMagic,
@@ -31,7 +31,7 @@ pub enum ContainerError {
 }
 
 // The values that a refusal names: `count` of them, at most two, and zeros behind them.
-#[derive(Drop)]
+#[derive(Clone, Copy)]
 pub struct Values {
     pub count: usize,
     pub first: u32,

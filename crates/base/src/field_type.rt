@@ -5,7 +5,7 @@ ghost use Rattle.base.specs.Small.{field_type_number, field_type_from, field_typ
 use crate::char_width::CharWidth;
 use crate::error::ContainerError;
 
-#[derive(Drop)]
+#[derive(Clone, Copy)]
 pub enum FieldType {
     I32,
     U32,
@@ -20,7 +20,7 @@ pub enum FieldType {
     Slot,
 }
 
-#[derive(Drop)]
+#[derive(Clone, Copy)]
 pub enum FieldTypeAnswer {
     Refused(ContainerError),
     Type(FieldType),

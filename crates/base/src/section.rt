@@ -16,42 +16,42 @@ pub const PROGRAM_LIMIT: usize = 65536;
 pub const HEADER_SIZE: usize = 256;
 
 // Where the header says a section lies; not checked.
-#[derive(Drop)]
+#[derive(Clone, Copy)]
 pub struct Section {
     pub offset: u32,
     pub size: u32,
 }
 
 // A part of the file: `size` bytes from `offset` on.
-#[derive(Drop)]
+#[derive(Clone, Copy)]
 pub struct Part {
     pub offset: usize,
     pub size: usize,
 }
 
 // A refusal, or a part of the file.
-#[derive(Drop)]
+#[derive(Clone, Copy)]
 pub enum PartAnswer {
     Refused(ContainerError),
     Part(Part),
 }
 
 // Where reading goes on after what was passed over.
-#[derive(Drop)]
+#[derive(Clone, Copy)]
 pub enum Walk {
     Refused(ContainerError),
     At(usize),
 }
 
 // Whether a section reads.
-#[derive(Drop)]
+#[derive(Clone, Copy)]
 pub enum Checked {
     Refused(ContainerError),
     Good,
 }
 
 // Where a walk over a table starts.
-#[derive(Drop)]
+#[derive(Clone, Copy)]
 pub enum StartAnswer {
     Refused(ContainerError),
     Start(Table),

@@ -4,14 +4,14 @@ ghost use Rattle.base.specs.Small.{task_type_number, task_type_from, task_type_o
 
 use crate::error::ContainerError;
 
-#[derive(Drop)]
+#[derive(Clone, Copy)]
 pub enum TaskType {
     Cyclic,
     Event,
     Freewheeling,
 }
 
-#[derive(Drop)]
+#[derive(Clone, Copy)]
 pub enum TaskTypeAnswer {
     Refused(ContainerError),
     Type(TaskType),

@@ -13,7 +13,7 @@ use hasher::one_chunk;
 // The most bytes that are hashed alone.
 pub const HASH_LIMIT: usize = 261376;
 
-#[derive(Drop)]
+#[derive(Clone, Copy)]
 pub enum HashAnswer {
     Refused(ContainerError),
     Digest(Digest),

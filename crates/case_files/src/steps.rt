@@ -3,7 +3,7 @@ use crate::files::{copy, fill};
 use crate::lines::{line_like, number, piece, place_among, text};
 
 // Where the next line starts, where `end` leads back to, and the lengths of the file and of the record's file.
-#[derive(Drop)]
+#[derive(Clone, Copy)]
 pub struct Now {
     pub at: usize,
     pub back: usize,

@@ -16,7 +16,7 @@ use reading::{Table, u16_at, u32_at};
 const FUNC_ENTRY_SIZE: usize = 16;
 
 // A function's entry in the directory.
-#[derive(Drop)]
+#[derive(Clone, Copy)]
 pub struct FuncEntry {
     pub function_id: FunctionId,
     pub code_offset: u32,
@@ -26,14 +26,14 @@ pub struct FuncEntry {
     pub num_params: u16,
 }
 
-#[derive(Drop)]
+#[derive(Clone, Copy)]
 pub enum FuncAnswer {
     Refused(ContainerError),
     Entry(FuncEntry),
 }
 
 // One step of a walk over the directory.
-#[derive(Drop)]
+#[derive(Clone, Copy)]
 pub enum FuncNext {
     End,
     Refused(ContainerError),

@@ -24,7 +24,7 @@ use reading::{Table, u8_at, u16_at, u32_at, u64_at};
 const HEAD_SIZE: usize = 4;
 
 // What is kept of a constant.
-#[derive(Drop)]
+#[derive(Clone, Copy)]
 pub enum Kept {
     // A number: its eight bytes, low byte first.
     Number(u64),
@@ -32,71 +32,71 @@ pub enum Kept {
     Part(Part),
 }
 
-#[derive(Drop)]
+#[derive(Clone, Copy)]
 pub struct ConstEntry {
     pub const_type: ConstType,
     pub kept: Kept,
 }
 
 // An entry's type and where it ends.
-#[derive(Drop)]
+#[derive(Clone, Copy)]
 pub enum HeadAnswer {
     Refused(ContainerError),
     Head(ConstType, usize),
 }
 
 // An entry read at a place, and where it ends.
-#[derive(Drop)]
+#[derive(Clone, Copy)]
 pub enum ConstStep {
     Refused(ContainerError),
     Entry(ConstEntry, usize),
 }
 
-#[derive(Drop)]
+#[derive(Clone, Copy)]
 pub enum CountAnswer {
     Refused(ContainerError),
     Count(u16),
 }
 
-#[derive(Drop)]
+#[derive(Clone, Copy)]
 pub enum ConstAnswer {
     Refused(ContainerError),
     Entry(ConstEntry),
 }
 
 // One step of a walk over the pool.
-#[derive(Drop)]
+#[derive(Clone, Copy)]
 pub enum ConstNext {
     End,
     Refused(ContainerError),
     Entry(ConstEntry, Table),
 }
 
-#[derive(Drop)]
+#[derive(Clone, Copy)]
 pub enum U32Answer {
     Refused(ContainerError),
     Value(u32),
 }
 
-#[derive(Drop)]
+#[derive(Clone, Copy)]
 pub enum U64Answer {
     Refused(ContainerError),
     Value(u64),
 }
 
-#[derive(Drop)]
+#[derive(Clone, Copy)]
 pub enum I32Answer {
     Refused(ContainerError),
     Value(i32),
 }
 
-#[derive(Drop)]
+#[derive(Clone, Copy)]
 pub enum I64Answer {
     Refused(ContainerError),
     Value(i64),
 }
 
-#[derive(Drop)]
+#[derive(Clone, Copy)]
 pub enum WidthAnswer {
     Refused(ContainerError),
     Width(CharWidth),

@@ -147,14 +147,14 @@ pub use type_section::next_fb_type;
 pub use type_section::next_field;
 pub use type_section::next_user_fb;
 
-#[derive(Drop)]
+#[derive(Clone, Copy)]
 pub enum ContainerAnswer {
     Refused(ContainerError),
     Container(Container),
 }
 
 // The state of a file's debug section, by document 01's tests in its order; the container loads with debug only in the last.
-#[derive(Drop)]
+#[derive(Clone, Copy)]
 pub enum DebugState {
     // Its size is 0.
     Empty,
@@ -169,7 +169,7 @@ pub enum DebugState {
 }
 
 // The type section's refusal, or its counts where there is one.
-#[derive(Drop)]
+#[derive(Clone, Copy)]
 enum TypesRead {
     Refused(ContainerError),
     Types(MaybeTypes),

@@ -15,21 +15,21 @@ use debug_text::{
 use reading::{Table, u16_at};
 
 // The type's name, and the table of the values' names: the place of the first in the section, and their number.
-#[derive(Drop)]
+#[derive(Clone, Copy)]
 pub struct EnumerationEntry {
     pub type_name: Part,
     pub values: Table,
 }
 
 // An entry, and the place after it.
-#[derive(Drop)]
+#[derive(Clone, Copy)]
 pub enum EnumerationStep {
     Fault(DebugFault),
     Entry(EnumerationEntry, usize),
 }
 
 // The entry that a lookup finds; `NoEntry` if the table has none at the index.
-#[derive(Drop)]
+#[derive(Clone, Copy)]
 pub enum EnumerationFound {
     Fault(DebugFault),
     NoEntry,
@@ -37,7 +37,7 @@ pub enum EnumerationFound {
 }
 
 // One step of a walk.
-#[derive(Drop)]
+#[derive(Clone, Copy)]
 pub enum EnumerationWalk {
     End,
     Fault(DebugFault),

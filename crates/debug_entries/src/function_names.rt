@@ -15,21 +15,21 @@ use reading::{Table, u16_at};
 // The size of the id in front of a function's name.
 const FUNCTION_ID_SIZE: usize = 2;
 
-#[derive(Drop)]
+#[derive(Clone, Copy)]
 pub struct FunctionNameEntry {
     pub function_id: FunctionId,
     pub name: Part,
 }
 
 // An entry, and the place after it.
-#[derive(Drop)]
+#[derive(Clone, Copy)]
 pub enum FunctionNameStep {
     Fault(DebugFault),
     Entry(FunctionNameEntry, usize),
 }
 
 // The entry that a lookup finds; `NoEntry` if the table has none at the index.
-#[derive(Drop)]
+#[derive(Clone, Copy)]
 pub enum FunctionNameFound {
     Fault(DebugFault),
     NoEntry,
@@ -37,7 +37,7 @@ pub enum FunctionNameFound {
 }
 
 // One step of a walk.
-#[derive(Drop)]
+#[derive(Clone, Copy)]
 pub enum FunctionNameWalk {
     End,
     Fault(DebugFault),

@@ -14,21 +14,21 @@ use reading::Table;
 
 pub const SOURCE_FILE_HASH_LEN: usize = 32;
 
-#[derive(Drop)]
+#[derive(Clone, Copy)]
 pub struct SourceFileEntry {
     pub path: Part,
     pub content_hash: Digest,
 }
 
 // An entry, and the place after it.
-#[derive(Drop)]
+#[derive(Clone, Copy)]
 pub enum SourceFileStep {
     Fault(DebugFault),
     Entry(SourceFileEntry, usize),
 }
 
 // The entry that a lookup finds; `NoEntry` if the table has none at the index.
-#[derive(Drop)]
+#[derive(Clone, Copy)]
 pub enum SourceFileFound {
     Fault(DebugFault),
     NoEntry,
@@ -36,7 +36,7 @@ pub enum SourceFileFound {
 }
 
 // One step of a walk.
-#[derive(Drop)]
+#[derive(Clone, Copy)]
 pub enum SourceFileWalk {
     End,
     Fault(DebugFault),

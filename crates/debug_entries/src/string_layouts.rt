@@ -13,7 +13,7 @@ use reading::{Table, u16_at, u32_at};
 
 const STRING_LAYOUT_ENTRY_SIZE: usize = 8;
 
-#[derive(Drop)]
+#[derive(Clone, Copy)]
 pub struct StringLayoutEntry {
     pub var_index: VarIndex,
     pub data_offset: u32,
@@ -21,14 +21,14 @@ pub struct StringLayoutEntry {
 }
 
 // An entry, and the place after it.
-#[derive(Drop)]
+#[derive(Clone, Copy)]
 pub enum StringLayoutStep {
     Fault(DebugFault),
     Entry(StringLayoutEntry, usize),
 }
 
 // The entry that a lookup finds; `NoEntry` if the table has none at the index.
-#[derive(Drop)]
+#[derive(Clone, Copy)]
 pub enum StringLayoutFound {
     Fault(DebugFault),
     NoEntry,
@@ -36,7 +36,7 @@ pub enum StringLayoutFound {
 }
 
 // One step of a walk.
-#[derive(Drop)]
+#[derive(Clone, Copy)]
 pub enum StringLayoutWalk {
     End,
     Fault(DebugFault),

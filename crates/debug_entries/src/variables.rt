@@ -15,7 +15,7 @@ use reading::{Table, u8_at, u16_at};
 // The size of a variable's numbers, which stand in front of its names.
 const VARIABLE_NUMBERS_SIZE: usize = 6;
 
-#[derive(Drop)]
+#[derive(Clone, Copy)]
 pub struct VariableEntry {
     pub var_index: VarIndex,
     pub function_id: FunctionId,
@@ -26,14 +26,14 @@ pub struct VariableEntry {
 }
 
 // An entry, and the place after it.
-#[derive(Drop)]
+#[derive(Clone, Copy)]
 pub enum VariableStep {
     Fault(DebugFault),
     Entry(VariableEntry, usize),
 }
 
 // The entry that a lookup finds; `NoEntry` if the table has none at the index.
-#[derive(Drop)]
+#[derive(Clone, Copy)]
 pub enum VariableFound {
     Fault(DebugFault),
     NoEntry,
@@ -41,7 +41,7 @@ pub enum VariableFound {
 }
 
 // One step of a walk.
-#[derive(Drop)]
+#[derive(Clone, Copy)]
 pub enum VariableWalk {
     End,
     Fault(DebugFault),

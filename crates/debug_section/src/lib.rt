@@ -23,43 +23,43 @@ use debug_text::NameFound;
 use line_map::LineAnswer;
 
 // Where the tables in force stand; walks over them start there.
-#[derive(Drop)]
+#[derive(Clone, Copy)]
 pub enum StartsAnswer {
     Refused(ContainerError),
     Starts(DebugTables),
 }
 
-#[derive(Drop)]
+#[derive(Clone, Copy)]
 pub enum VariableAnswer {
     Refused(ContainerError),
     Entry(VariableEntry),
 }
 
-#[derive(Drop)]
+#[derive(Clone, Copy)]
 pub enum FunctionNameAnswer {
     Refused(ContainerError),
     Entry(FunctionNameEntry),
 }
 
-#[derive(Drop)]
+#[derive(Clone, Copy)]
 pub enum StringLayoutAnswer {
     Refused(ContainerError),
     Entry(StringLayoutEntry),
 }
 
-#[derive(Drop)]
+#[derive(Clone, Copy)]
 pub enum SourceFileAnswer {
     Refused(ContainerError),
     Entry(SourceFileEntry),
 }
 
-#[derive(Drop)]
+#[derive(Clone, Copy)]
 pub enum EnumerationAnswer {
     Refused(ContainerError),
     Entry(EnumerationEntry),
 }
 
-#[derive(Drop)]
+#[derive(Clone, Copy)]
 pub enum ValueAnswer {
     Refused(ContainerError),
     Name(Part),

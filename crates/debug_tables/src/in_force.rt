@@ -9,21 +9,21 @@ use debug_text::COUNT_SIZE;
 use reading::u16_at;
 
 // A row's number, counted from 0 over the rows of every tag; none where no row has the tag.
-#[derive(Drop)]
+#[derive(Clone, Copy)]
 pub enum MaybeRow {
     None,
     At(u16),
 }
 
 // Of one tag: the row of the table in force, and how many earlier rows it replaced.
-#[derive(Drop)]
+#[derive(Clone, Copy)]
 pub struct TableRow {
     pub row: MaybeRow,
     pub replaced: u16,
 }
 
 // Of the six tags that are listed.
-#[derive(Drop)]
+#[derive(Clone, Copy)]
 pub struct RowsInForce {
     pub lines: TableRow,
     pub variables: TableRow,

@@ -41,7 +41,7 @@ const DIR_ENTRY_SIZE: usize = 8;
 const ROW_SIZE_AT: usize = 4;
 
 // What the payload of a row holds, by the row's tag.
-#[derive(Drop)]
+#[derive(Clone, Copy)]
 pub enum TableKind {
     Lines,
     Variables,
@@ -53,7 +53,7 @@ pub enum TableKind {
 }
 
 // Where the tables in force stand in the section; a table without a row is empty and at 0.
-#[derive(Drop)]
+#[derive(Clone, Copy)]
 pub struct DebugTables {
     pub lines: Table,
     pub variables: Table,
@@ -63,21 +63,21 @@ pub struct DebugTables {
     pub enumerations: Table,
 }
 
-#[derive(Drop)]
+#[derive(Clone, Copy)]
 pub enum DebugTablesAnswer {
     Fault(DebugFault),
     Tables(DebugTables),
 }
 
 // The payload of a row: where its entries stand if its tag is listed, and the place after it.
-#[derive(Drop)]
+#[derive(Clone, Copy)]
 enum PayloadStep {
     Fault(DebugFault),
     Table(Table, usize),
 }
 
 // How many entries the tables in force have.
-#[derive(Drop)]
+#[derive(Clone, Copy)]
 pub struct DebugCounts {
     pub lines: u16,
     pub variables: u16,
@@ -88,13 +88,13 @@ pub struct DebugCounts {
 }
 
 // What a record holds of them: none where the container loads with no debug.
-#[derive(Drop)]
+#[derive(Clone, Copy)]
 pub enum MaybeDebug {
     None,
     Some(DebugCounts),
 }
 
-#[derive(Drop)]
+#[derive(Clone, Copy)]
 pub enum DebugCountsAnswer {
     Fault(DebugFault),
     Counts(DebugCounts),
@@ -102,7 +102,7 @@ pub enum DebugCountsAnswer {
 
 // Which byte keeps a section from being read: where the first fault in it is a name or a path that lies whole in it and is not UTF-8, the
 // place of its first bad byte, counted from the section's start.
-#[derive(Drop)]
+#[derive(Clone, Copy)]
 pub enum BadPlace {
     None,
     At(usize),

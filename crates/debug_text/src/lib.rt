@@ -21,7 +21,7 @@ const NAME_LENGTH_SIZE: usize = 1;
 const PATH_LENGTH_SIZE: usize = 2;
 
 // Why the section is unreadable.
-#[derive(Drop)]
+#[derive(Clone, Copy)]
 pub enum DebugFault {
     // It ends before an announced item.
     Short,
@@ -30,21 +30,21 @@ pub enum DebugFault {
 }
 
 // Where reading continues after what was skipped.
-#[derive(Drop)]
+#[derive(Clone, Copy)]
 pub enum DebugWalk {
     Fault(DebugFault),
     At(usize),
 }
 
 // A text, and the place after it.
-#[derive(Drop)]
+#[derive(Clone, Copy)]
 pub enum TextStep {
     Fault(DebugFault),
     Text(Part, usize),
 }
 
 // The name that a lookup finds; `NoEntry` if the table has none at the index.
-#[derive(Drop)]
+#[derive(Clone, Copy)]
 pub enum NameFound {
     Fault(DebugFault),
     NoEntry,
@@ -52,7 +52,7 @@ pub enum NameFound {
 }
 
 // One step of a walk over names.
-#[derive(Drop)]
+#[derive(Clone, Copy)]
 pub enum NameWalk {
     End,
     Fault(DebugFault),

@@ -24,42 +24,42 @@ use line_map::LineNext;
 use reading::Table;
 
 // One step of a walk over a table: the next entry, and the entries after it.
-#[derive(Drop)]
+#[derive(Clone, Copy)]
 pub enum VariableNext {
     End,
     Refused(ContainerError),
     Entry(VariableEntry, Table),
 }
 
-#[derive(Drop)]
+#[derive(Clone, Copy)]
 pub enum FunctionNameNext {
     End,
     Refused(ContainerError),
     Entry(FunctionNameEntry, Table),
 }
 
-#[derive(Drop)]
+#[derive(Clone, Copy)]
 pub enum StringLayoutNext {
     End,
     Refused(ContainerError),
     Entry(StringLayoutEntry, Table),
 }
 
-#[derive(Drop)]
+#[derive(Clone, Copy)]
 pub enum SourceFileNext {
     End,
     Refused(ContainerError),
     Entry(SourceFileEntry, Table),
 }
 
-#[derive(Drop)]
+#[derive(Clone, Copy)]
 pub enum EnumerationNext {
     End,
     Refused(ContainerError),
     Entry(EnumerationEntry, Table),
 }
 
-#[derive(Drop)]
+#[derive(Clone, Copy)]
 pub enum ValueNext {
     End,
     Refused(ContainerError),

@@ -31,7 +31,7 @@ const CHUNKS: ChunkCounter = 1 << LEVELS;
 pub const CAPACITY: usize = CHUNK_LEN << LEVELS;
 
 // A node before its last compression: all inputs but the flag ROOT.
-#[derive(Drop)]
+#[derive(Clone, Copy)]
 pub struct Output {
     pub input_chaining_value: [u32; 8],
     pub block_words: [u32; 16],
@@ -41,19 +41,19 @@ pub struct Output {
 }
 
 // The chaining value of a finished subtree.
-#[derive(Drop)]
+#[derive(Clone, Copy)]
 pub struct ChainingValue {
     pub words: [u32; 8],
 }
 
 // The values that wait to be joined, oldest first: the first `len` of `values`.
-#[derive(Drop)]
+#[derive(Clone, Copy)]
 pub struct CvStack {
     pub values: [ChainingValue; LEVELS],
     pub len: usize,
 }
 
-#[derive(Drop)]
+#[derive(Clone, Copy)]
 pub struct Hasher {
     // The chaining value after the blocks of the current chunk that were compressed.
     pub chaining_value: [u32; 8],

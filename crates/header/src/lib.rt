@@ -45,7 +45,7 @@ pub const SECTION_DIRECTORY_START: usize = 136;
 
 pub const SECTION_DIRECTORY_END: usize = 192;
 
-#[derive(Drop)]
+#[derive(Clone, Copy)]
 pub struct FileHeader {
     // Identification: bytes 0 to 7
     pub magic: u32,
@@ -66,7 +66,7 @@ pub struct FileHeader {
 }
 
 // Where the sections lie.
-#[derive(Drop)]
+#[derive(Clone, Copy)]
 pub struct SectionDirectory {
     pub sig_section: Section,
     pub debug_sig: Section,
@@ -77,7 +77,7 @@ pub struct SectionDirectory {
     pub debug_section: Section,
 }
 
-#[derive(Drop)]
+#[derive(Clone, Copy)]
 pub struct RuntimeParameters {
     pub max_stack_depth: u16,
     pub max_call_depth: u16,
@@ -93,10 +93,10 @@ pub struct RuntimeParameters {
 }
 
 // The 38 reserved bytes as numbers, each low byte first.
-#[derive(Drop)]
+#[derive(Clone, Copy)]
 pub struct Reserved(pub u64, pub u64, pub u64, pub u64, pub u32, pub u16);
 
-#[derive(Drop)]
+#[derive(Clone, Copy)]
 pub enum HeaderAnswer {
     Refused(ContainerError),
     Header(FileHeader),

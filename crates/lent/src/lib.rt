@@ -6,7 +6,7 @@ ghost use Rattle.lent.specs.Output.{put_at_start, put_in, Wrote, Puts};
 ghost use Rattle.lent.specs.Laws.{Laws};
 
 // The place behind a text that was written; or it does not fit.
-#[derive(Drop)]
+#[derive(Clone, Copy)]
 pub enum Put {
     NoRoom,
     At(usize),

@@ -17,7 +17,7 @@ use reading::{Table, u16_at};
 pub const LINE_MAP_ENTRY_SIZE: usize = 10;
 
 // An entry of the line map: the source line and column that a function's bytecode comes from, from an offset on.
-#[derive(Drop)]
+#[derive(Clone, Copy)]
 pub struct LineMapEntry {
     pub function_id: FunctionId,
     pub bytecode_offset: u16,
@@ -26,14 +26,14 @@ pub struct LineMapEntry {
     pub source_column: SourceColumn,
 }
 
-#[derive(Drop)]
+#[derive(Clone, Copy)]
 pub enum LineAnswer {
     Refused(ContainerError),
     Entry(LineMapEntry),
 }
 
 // One step of a walk over the line map.
-#[derive(Drop)]
+#[derive(Clone, Copy)]
 pub enum LineNext {
     End,
     Refused(ContainerError),
@@ -41,7 +41,7 @@ pub enum LineNext {
 }
 
 // An entry of the map, or none.
-#[derive(Drop)]
+#[derive(Clone, Copy)]
 enum MaybeLine {
     None,
     Some(LineMapEntry),

@@ -21,7 +21,7 @@ use task_table::{ProgramNext, TaskNext, next_program, next_task};
 use type_section::{ArrayNext, FieldNext, UserFbNext, next_array, next_field, next_user_fb};
 
 // The kinds of entries that have a line of their own; FB types are written with their fields.
-#[derive(Drop)]
+#[derive(Clone, Copy)]
 pub enum EntryKind {
     Tasks,
     Programs,
@@ -34,7 +34,7 @@ pub enum EntryKind {
 }
 
 // What a step does: its line does not fit; there is no entry; or it writes a line, and returns the place behind it and the table of the other entries.
-#[derive(Drop)]
+#[derive(Clone, Copy)]
 pub enum PutNext {
     NoRoom,
     End,

@@ -5,7 +5,7 @@ ghost use Rattle.std.specs.Prelude.{◌≡◌, ◌+◌, ◌≤◌, ◌<◌, leng
 ghost use Rattle.reading.specs.Numbers.{le_at};
 
 // A table: where its next entry stands, and how many entries there are from there on. It is also the cursor of a walk.
-#[derive(Drop)]
+#[derive(Clone, Copy)]
 pub struct Table {
     pub at: usize,
     pub count: usize,

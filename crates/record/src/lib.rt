@@ -35,7 +35,7 @@ use type_entries::SizeAnswer;
 use type_section::{ArrayAnswer, FbTypeAnswer, FieldAnswer, TypeCounts, UserFbAnswer};
 
 // The type section's counts, if there is one.
-#[derive(Drop)]
+#[derive(Clone, Copy)]
 pub enum MaybeTypes {
     None,
     Some(TypeCounts),
@@ -43,7 +43,7 @@ pub enum MaybeTypes {
 
 // A container: the header, which holds each section's place and size and the function count; the other counts; and, of the debug tables in force, their
 // rows and how many earlier rows each replaced. No lookup reads these rows.
-#[derive(Drop)]
+#[derive(Clone, Copy)]
 pub struct Container {
     pub header: FileHeader,
     pub tasks: TaskCounts,

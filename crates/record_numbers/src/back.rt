@@ -39,7 +39,7 @@ const TYPES_FLAG: usize = 32;
 const DEBUG_FLAG: usize = 37;
 
 // The record of numbers, where there is one.
-#[derive(Drop)]
+#[derive(Clone, Copy)]
 pub enum MaybeRecord {
     None,
     Some(Container),

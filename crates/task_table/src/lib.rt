@@ -24,7 +24,7 @@ const TASK_ENTRY_SIZE: usize = 32;
 const PROGRAM_INSTANCE_ENTRY_SIZE: usize = 16;
 
 // A task. `reserved` holds its four reserved bytes, low byte first.
-#[derive(Drop)]
+#[derive(Clone, Copy)]
 pub struct TaskEntry {
     pub task_id: TaskId,
     pub priority: u16,
@@ -39,7 +39,7 @@ pub struct TaskEntry {
 }
 
 // A program instance.
-#[derive(Drop)]
+#[derive(Clone, Copy)]
 pub struct ProgramInstanceEntry {
     pub instance_id: InstanceId,
     pub task_id: TaskId,
@@ -52,40 +52,40 @@ pub struct ProgramInstanceEntry {
 }
 
 // What the section's header says.
-#[derive(Drop)]
+#[derive(Clone, Copy)]
 pub struct TaskCounts {
     pub shared_globals_size: u16,
     pub tasks: u16,
     pub programs: u16,
 }
 
-#[derive(Drop)]
+#[derive(Clone, Copy)]
 pub enum TaskTableAnswer {
     Refused(ContainerError),
     Counts(TaskCounts),
 }
 
 // A task read at a place, and where it ends.
-#[derive(Drop)]
+#[derive(Clone, Copy)]
 enum TaskStep {
     Refused(ContainerError),
     Entry(TaskEntry, usize),
 }
 
-#[derive(Drop)]
+#[derive(Clone, Copy)]
 pub enum TaskAnswer {
     Refused(ContainerError),
     Entry(TaskEntry),
 }
 
-#[derive(Drop)]
+#[derive(Clone, Copy)]
 pub enum ProgramAnswer {
     Refused(ContainerError),
     Entry(ProgramInstanceEntry),
 }
 
 // One step of a walk over the tasks.
-#[derive(Drop)]
+#[derive(Clone, Copy)]
 pub enum TaskNext {
     End,
     Refused(ContainerError),
@@ -93,7 +93,7 @@ pub enum TaskNext {
 }
 
 // One step of a walk over the programs.
-#[derive(Drop)]
+#[derive(Clone, Copy)]
 pub enum ProgramNext {
     End,
     Refused(ContainerError),

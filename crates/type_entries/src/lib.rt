@@ -38,21 +38,21 @@ const STRING: u8 = 6;
 const WSTRING: u8 = 7;
 
 // A field of an FB type.
-#[derive(Drop)]
+#[derive(Clone, Copy)]
 pub struct FieldEntry {
     pub field_type: FieldType,
     pub field_extra: u16,
 }
 
 // An FB type: its id and its number of fields. The fields are read one by one.
-#[derive(Drop)]
+#[derive(Clone, Copy)]
 pub struct FbTypeDescriptor {
     pub type_id: FbTypeId,
     pub num_fields: u8,
 }
 
 // An array. The stride is the distance between the starts of neighbouring elements.
-#[derive(Drop)]
+#[derive(Clone, Copy)]
 pub struct ArrayDescriptor {
     pub element_type: u8,
     pub total_elements: u32,
@@ -61,7 +61,7 @@ pub struct ArrayDescriptor {
 }
 
 // A user-defined FB: its id, the function of its body, its first variable and its number of fields.
-#[derive(Drop)]
+#[derive(Clone, Copy)]
 pub struct UserFbDescriptor {
     pub type_id: FbTypeId,
     pub function_id: FunctionId,
@@ -70,53 +70,53 @@ pub struct UserFbDescriptor {
 }
 
 // An entry read at a place, and where it ends.
-#[derive(Drop)]
+#[derive(Clone, Copy)]
 pub enum FieldStep {
     Refused(ContainerError),
     Entry(FieldEntry, usize),
 }
 
-#[derive(Drop)]
+#[derive(Clone, Copy)]
 pub enum FbTypeStep {
     Refused(ContainerError),
     Entry(FbTypeDescriptor, usize),
 }
 
-#[derive(Drop)]
+#[derive(Clone, Copy)]
 pub enum ArrayStep {
     Refused(ContainerError),
     Entry(ArrayDescriptor, usize),
 }
 
-#[derive(Drop)]
+#[derive(Clone, Copy)]
 pub enum UserFbStep {
     Refused(ContainerError),
     Entry(UserFbDescriptor, usize),
 }
 
 // A table with its count in front: where its entries start, and where it ends.
-#[derive(Drop)]
+#[derive(Clone, Copy)]
 pub enum TableStep {
     Refused(ContainerError),
     Entries(Table, usize),
 }
 
 // Where the entries of each table start, and their counts.
-#[derive(Drop)]
+#[derive(Clone, Copy)]
 pub struct Tables {
     pub fb_types: Table,
     pub arrays: Table,
     pub user_fbs: Table,
 }
 
-#[derive(Drop)]
+#[derive(Clone, Copy)]
 pub enum TypeTablesAnswer {
     Refused(ContainerError),
     Tables(Tables),
 }
 
 // A size in bytes.
-#[derive(Drop)]
+#[derive(Clone, Copy)]
 pub enum SizeAnswer {
     Refused(ContainerError),
     Bytes(u32),

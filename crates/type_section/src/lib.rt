@@ -19,73 +19,73 @@ use type_entries::{
 };
 
 // The number of entries in each table.
-#[derive(Drop)]
+#[derive(Clone, Copy)]
 pub struct TypeCounts {
     pub fb_types: u16,
     pub arrays: u16,
     pub user_fbs: u16,
 }
 
-#[derive(Drop)]
+#[derive(Clone, Copy)]
 pub enum TypesAnswer {
     Refused(ContainerError),
     Counts(TypeCounts),
 }
 
-#[derive(Drop)]
+#[derive(Clone, Copy)]
 pub enum FbTypeAnswer {
     Refused(ContainerError),
     Entry(FbTypeDescriptor),
 }
 
-#[derive(Drop)]
+#[derive(Clone, Copy)]
 pub enum FieldAnswer {
     Refused(ContainerError),
     Entry(FieldEntry),
 }
 
-#[derive(Drop)]
+#[derive(Clone, Copy)]
 pub enum ArrayAnswer {
     Refused(ContainerError),
     Entry(ArrayDescriptor),
 }
 
-#[derive(Drop)]
+#[derive(Clone, Copy)]
 pub enum UserFbAnswer {
     Refused(ContainerError),
     Entry(UserFbDescriptor),
 }
 
 // An FB type, and where its fields start in the section.
-#[derive(Drop)]
+#[derive(Clone, Copy)]
 enum FbTypePlaced {
     Refused(ContainerError),
     Entry(FbTypeDescriptor, usize),
 }
 
 // One step of a walk over a table: the next entry, and the entries behind it. An FB type comes with the table of its fields.
-#[derive(Drop)]
+#[derive(Clone, Copy)]
 pub enum FbTypeNext {
     End,
     Refused(ContainerError),
     Entry(FbTypeDescriptor, Table, Table),
 }
 
-#[derive(Drop)]
+#[derive(Clone, Copy)]
 pub enum FieldNext {
     End,
     Refused(ContainerError),
     Entry(FieldEntry, Table),
 }
 
-#[derive(Drop)]
+#[derive(Clone, Copy)]
 pub enum ArrayNext {
     End,
     Refused(ContainerError),
     Entry(ArrayDescriptor, Table),
 }
 
-#[derive(Drop)]
+#[derive(Clone, Copy)]
 pub enum UserFbNext {
     End,
     Refused(ContainerError),

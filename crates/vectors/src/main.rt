@@ -18,7 +18,7 @@ const TWICE: usize = 2 * CAPACITY;
 const NO_PLACE_LEFT: usize = TWICE - CHUNK_LEN + 1;
 
 // The number at the start of a line, and how many digits it has.
-#[derive(Drop)]
+#[derive(Clone, Copy)]
 struct Number {
     value: usize,
     digits: usize,
