@@ -1,6 +1,6 @@
 -- BLAKE3's compression function, as its specification defines it (section 2.2).
 -- A state is a list of 16 words, a message block a list of 16 words, a chaining value a list of 8.
-use Rattle.std.specs.Prelude.{ℕ, zero, suc, ◌+◌, ◌/◌, ◌%◌, ◌^◌, List, [], ◌∷◌, ◌++◌, map, slice_index, slice_set}
+use Rattle.std.specs.Prelude.{ℕ, zero, suc, ◌/◌, ◌%◌, ◌^◌, List, [], ◌∷◌, map, slice_index, slice_set}
 use Rattle.compression.specs.Word.{add32, xor, rotr}
 
 -- the word at i

@@ -1,4 +1,6 @@
 // BLAKE3's compression function. Each contract says that the result equals a definition in specs/.
+#![tactic(auto)]
+
 ghost use Rattle.std.specs.Prelude.{◌≡◌, ◌+◌, ◌≤◌, ◌++◌, length, drop};
 ghost use Rattle.compression.specs.Word as Word;
 ghost use Rattle.compression.specs.Compression as Compression;

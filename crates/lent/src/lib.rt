@@ -1,5 +1,7 @@
 // Output in buffers that the caller lends. Each function that writes at a place `at` returns the place behind what it wrote; the rest of the
 // buffer is unchanged. The definitions are over lists of numbers, so a buffer of bytes and one of 64-bit numbers share them.
+#![tactic(auto)]
+
 ghost use Rattle.std.specs.Prelude.{◌+◌, ◌<◌, ◌≤◌, ◌≡◌, [], ◌∷◌, length};
 ghost use Rattle.reading.specs.Numbers.{bytes_le};
 ghost use Rattle.lent.specs.Output.{put_at_start, put_in, Wrote, Puts};
