@@ -1,4 +1,6 @@
 // What every section uses.
+#![tactic(auto)]
+
 pub mod char_width;
 pub mod const_type;
 pub mod digest;
