@@ -9,8 +9,8 @@ use Rattle.text.specs.Text.{ascii, line, dash_line}
 use Rattle.listing.specs.Lines.{values_line}
 
 module _ (k a b : ℕ) {vs : List ℕ} (n : ℕ) (is : take k (a ∷ b ∷ []) ≡ vs) where
-  pub no_value : k ≡ 0 → values_line n vs ≡ dash_line (ascii "refused") (n ∷ [])
-  no_value e = rw (← is, e)
+  pub no-value : k ≡ 0 → values_line n vs ≡ dash_line (ascii "refused") (n ∷ [])
+  no-value e = rw (← is, e)
 
   pub one_value : k ≡ 1 → values_line n vs ≡ line (ascii "refused") (n ∷ a ∷ [])
   one_value e = rw (← is, e)

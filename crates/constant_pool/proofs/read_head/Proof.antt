@@ -30,7 +30,7 @@ returns-2 c =
     let s = a.s.now in
     let t = c.before.before.before.before.const-type.given in
     let e = sym (ap const_type_from t.1) ∙ c.before.before.before.before.before.before.from-u8.ensures in
-    let f = sym c.before.before.size_fits.ensures ∙ c.before.if2.true in
+    let f = sym c.before.before.size-fits.ensures ∙ c.before.if2.true in
     let h : a.at + head_size ≤ length s = omega arith in
     (step-at _ _ _ _ (type-stops _ (constant-few by_bytes s a.at c.before.before.before.before.before.before.before.before.u16-at.result h c.before.before.before.before.before.before.before.before.u16-at.ensures c.before.before.before.before.before.before.before.u8-at.result (const_type_number t.0.0) c.before.before.before.before.before.before.before.u8-at.ensures e f c.if3.true)), tt)
 
@@ -41,7 +41,7 @@ returns-3 c =
     let n = c.before.before.before.before.before.before.before.before.u16-at.result in
     let t = c.before.before.before.before.const-type.given in
     let e = sym (ap const_type_from t.1) ∙ c.before.before.before.before.before.before.from-u8.ensures in
-    let f = sym c.before.before.size_fits.ensures ∙ c.before.if2.true in
+    let f = sym c.before.before.size-fits.ensures ∙ c.before.if2.true in
     let h : a.at + head_size ≤ length s = omega arith in
     let l : a.at + head_size + n ≤ length s = omega arith in
     let m : a.at + head_size ≤ a.at + head_size + n = omega arith in
@@ -65,7 +65,7 @@ returns-5 c =
     let s = a.s.now in
     let t = c.before.before.before.before.const-type.given in
     let e = sym (ap const_type_from t.1) ∙ c.before.before.before.before.before.before.from-u8.ensures in
-    let f = sym c.before.before.size_fits.ensures ∙ c.before.if2.false in
+    let f = sym c.before.before.size-fits.ensures ∙ c.before.if2.false in
     let h : a.at + head_size ≤ length s = omega arith in
     let k = ap (λ (n : ℕ). fault (invalid_constant_type n)) (sym c.number.ensures) in
     (step-at _ _ _ _ (type-stops _ (constant-size by_bytes s a.at c.before.before.before.before.before.before.before.before.u16-at.result h c.before.before.before.before.before.before.before.before.u16-at.ensures c.before.before.before.before.before.before.before.u8-at.result (const_type_number t.0.0) c.before.before.before.before.before.before.before.u8-at.ensures e f ∙ k)), tt)

@@ -2,7 +2,7 @@
 use native.Mathlib.Omega.{arith}
 use Prim.Native.Nat.{◌*◌, ◌-◌, ◌≤◌}
 use lib.ListN.{length}
-use Rattle.reading.proofs.Given.{way_at}
+use Rattle.reading.proofs.Given.{way-at}
 use Rattle.line_map.proofs.Entries.{lines-read, lines-short, fit-told, short-told}
 use borrow.Author.Rules.{rules}
 use Rattle.debug_tables.proofs.skip_lines.Statement.{statement}
@@ -18,12 +18,12 @@ add-t7 : tie.Need-overflow-add-t7
 add-t7 c = omega (arith, fits c)
 
 returns : tie.Need-returns
-returns c = let a = c.before.before.before.args in way_at _ _ _ _ (omega (arith, fits c), lines-read a.s.now a.at a.n (fits c))
+returns c = let a = c.before.before.before.args in way-at _ _ _ _ (omega (arith, fits c), lines-read a.s.now a.at a.n (fits c))
 
 returns-2 : tie.Need-returns-2
 returns-2 c =
     let a = c.before.before.before.args in
-    way_at _ _ _ _ (lines-short a.s.now a.at a.n (short-told a.s.now a.at a.n c.before.lines_fit.ensures c.if1.false))
+    way-at _ _ _ _ (lines-short a.s.now a.at a.n (short-told a.s.now a.at a.n c.before.lines_fit.ensures c.if1.false))
 
 pub skip-lines-spec : {M : Type 1} → statement M
 skip-lines-spec = tie.close (tie.spec (λ c κs. search rules) mul-t6 add-t7 returns returns-2)

@@ -1,13 +1,13 @@
 -- `listing::put_refused` meets its contract: the line by how many values the refusal has.
 use Rattle.base.proofs.Values.{values_listed}
-use Rattle.listing.proofs.Refused.{no_value, one_value, two-values}
+use Rattle.listing.proofs.Refused.{no-value, one_value, two-values}
 use borrow.Author.Rules.{rules}
 use Rattle.listing.proofs.put_refused.Statement.{statement}
 use Rattle.listing.proofs.put_refused.Tie as tie
 
 returns : tie.Need-returns
 returns c =
-    rw (← c.before.before.before.before.before.before.before.before.before.before.before.number.ensures, no_value _ _ _ _ (values_listed c.before.before.before.before.before.before.before.before.before.before.before.before.before.args.e c.before.before.before.before.before.before.before.before.before.before.values.ensures) c.before.before.before.before.before.before.if1.true)
+    rw (← c.before.before.before.before.before.before.before.before.before.before.before.number.ensures, no-value _ _ _ _ (values_listed c.before.before.before.before.before.before.before.before.before.before.before.before.before.args.e c.before.before.before.before.before.before.before.before.before.before.values.ensures) c.before.before.before.before.before.before.if1.true)
     c.before.before.put-dash-line.ensures
 
 returns-2 : tie.Need-returns-2

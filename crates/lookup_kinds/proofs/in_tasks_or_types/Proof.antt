@@ -30,7 +30,7 @@ returns-5 c = let a = c.before.before.before.before.args in of-kind a.file.now (
 
 returns-6 : tie.Need-returns-6
 unfolding lookups_of
-returns-6 c = let a = c.before.before.before.before.args in of-kind a.file.now (container_in a.c) 5 a.kind a.index a.second c.before.before.match.keys6 (as-numbers value_numbers c.size-numbers.ensures c.before.array_size.ensures)
+returns-6 c = let a = c.before.before.before.before.args in of-kind a.file.now (container_in a.c) 5 a.kind a.index a.second c.before.before.match.keys6 (as-numbers value_numbers c.size-numbers.ensures c.before.array-size.ensures)
 
 returns-7 : tie.Need-returns-7
 unfolding lookups_of

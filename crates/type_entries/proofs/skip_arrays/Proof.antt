@@ -3,7 +3,7 @@ use mathlib.Core.Path.{ap}
 use Prim.Native.Nat.{◌-◌}
 use native.Mathlib.Omega.{arith}
 use Rattle.reading.proofs.Passing.{Passed, passed_none, passed-all, walk-stop, walk_more}
-use Rattle.reading.proofs.Given.{way_at, reads_at}
+use Rattle.reading.proofs.Given.{way-at, reads_at}
 use Rattle.reading.proofs.Left.{stays-local}
 use Rattle.format.specs.Types.{array}
 use Rattle.type_entries.specs.Answers.{array_step}
@@ -22,13 +22,13 @@ loop-holds : tie.Need-loop-init invariant-loop decreases-loop
 loop-holds c = passed_none _ _ _ _ (omega arith)
 
 returns : tie.Need-returns invariant-loop decreases-loop
-returns c = way_at _ _ _ _ (walk-stop array _ _ _ _ _ _ c.before.before.before.before.loop-test.true c.before.before.before.before.before.loop.invariant (ap array_step c.before.e.given.1) (reads_at (stays-local _ local-array) _ c.before.before.before.read-array.ensures))
+returns c = way-at _ _ _ _ (walk-stop array _ _ _ _ _ _ c.before.before.before.before.loop-test.true c.before.before.before.before.before.loop.invariant (ap array_step c.before.e.given.1) (reads_at (stays-local _ local-array) _ c.before.before.before.read-array.ensures))
 
 loop-again : tie.Need-loop-preserved invariant-loop decreases-loop
 loop-again c = walk_more array _ _ _ _ _ _ _ c.before.before.before.before.loop-test.true c.before.before.before.before.before.loop.invariant (ap array_step c.before.m.given.1) (reads_at (stays-local _ local-array) _ c.before.before.before.read-array.ensures)
 
 returns-2 : tie.Need-returns-2 invariant-loop decreases-loop
-returns-2 c = way_at _ _ _ _ (passed-all _ _ _ _ _ _ c.loop-test.false c.before.loop.invariant)
+returns-2 c = way-at _ _ _ _ (passed-all _ _ _ _ _ _ c.loop-test.false c.before.loop.invariant)
 
 pub skip-arrays-spec : {M : Type 1} → statement M
 skip-arrays-spec =

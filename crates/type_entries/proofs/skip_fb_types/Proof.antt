@@ -4,7 +4,7 @@ use Prim.Native.Nat.{◌-◌}
 use native.Mathlib.Omega.{arith}
 use Rattle.reading.proofs.Passing.{Passed, passed_none, passed-all}
 use Rattle.reading.proofs.Made.{made-stop, made_more}
-use Rattle.reading.proofs.Given.{way_at, reads_at}
+use Rattle.reading.proofs.Given.{way-at, reads_at}
 use Rattle.reading.proofs.Left.{stays-local}
 use Rattle.format.specs.Types.{fb_type}
 use Rattle.format.specs.Lookups.{fb_type_head_of}
@@ -24,13 +24,13 @@ loop-holds : tie.Need-loop-init invariant-loop decreases-loop
 loop-holds c = passed_none _ _ _ _ (omega arith)
 
 returns : tie.Need-returns invariant-loop decreases-loop
-returns c = way_at _ _ _ _ (made-stop fb_type_head_of fb_type _ _ _ _ _ _ c.before.before.before.before.loop-test.true c.before.before.before.before.before.loop.invariant (ap fb_type_step c.before.e.given.1) (reads_at (stays-local _ local-head) _ c.before.before.before.read-fb-type.ensures))
+returns c = way-at _ _ _ _ (made-stop fb_type_head_of fb_type _ _ _ _ _ _ c.before.before.before.before.loop-test.true c.before.before.before.before.before.loop.invariant (ap fb_type_step c.before.e.given.1) (reads_at (stays-local _ local-head) _ c.before.before.before.read-fb-type.ensures))
 
 loop-again : tie.Need-loop-preserved invariant-loop decreases-loop
 loop-again c = made_more fb_type_head_of fb_type _ _ _ _ _ _ _ c.before.before.before.before.loop-test.true c.before.before.before.before.before.loop.invariant (ap fb_type_step c.before.m.given.1) (reads_at (stays-local _ local-head) _ c.before.before.before.read-fb-type.ensures)
 
 returns-2 : tie.Need-returns-2 invariant-loop decreases-loop
-returns-2 c = way_at _ _ _ _ (passed-all _ _ _ _ _ _ c.loop-test.false c.before.loop.invariant)
+returns-2 c = way-at _ _ _ _ (passed-all _ _ _ _ _ _ c.loop-test.false c.before.loop.invariant)
 
 pub skip-fb-types-spec : {M : Type 1} → statement M
 skip-fb-types-spec =

@@ -6,7 +6,7 @@ use Rattle.reading.proofs.Passing.{Passed, passed_none, passed-all}
 use Rattle.format.specs.Debug.{enumeration}
 use Rattle.debug_text.specs.Answers.{keep_in}
 use Rattle.reading.proofs.Made.{made-stop, made_more}
-use Rattle.reading.proofs.Given.{way_at, reads_at}
+use Rattle.reading.proofs.Given.{way-at, reads_at}
 use Rattle.debug_entries.specs.Answers.{entry_of, enumeration_step}
 use Rattle.debug_entries.proofs.Entries.{stays-entry}
 use borrow.Author.Rules.{rules}
@@ -25,7 +25,7 @@ loop-holds c = passed_none _ _ _ _ (omega arith)
 returns : tie.Need-returns invariant-loop decreases-loop
 returns c =
     let a = c.before.before.before.before.before.before.before.args in
-    way_at _ _ _ _ (made-stop (entry_of a.base) (enumeration (keep_in a.base a.s.now)) a.s.now _ _ _ _ _ c.before.before.before.before.loop-test.true c.before.before.before.before.before.loop.invariant (ap (enumeration_step _) c.before.e.given.1) (reads_at (stays-entry _ _ _) _ c.before.before.before.read-enumeration.ensures))
+    way-at _ _ _ _ (made-stop (entry_of a.base) (enumeration (keep_in a.base a.s.now)) a.s.now _ _ _ _ _ c.before.before.before.before.loop-test.true c.before.before.before.before.before.loop.invariant (ap (enumeration_step _) c.before.e.given.1) (reads_at (stays-entry _ _ _) _ c.before.before.before.read-enumeration.ensures))
 
 loop-again : tie.Need-loop-preserved invariant-loop decreases-loop
 loop-again c =
@@ -33,7 +33,7 @@ loop-again c =
     made_more (entry_of a.base) (enumeration (keep_in a.base a.s.now)) a.s.now _ _ _ _ _ _ c.before.before.before.before.loop-test.true c.before.before.before.before.before.loop.invariant (ap (enumeration_step _) c.before.m.given.1) (reads_at (stays-entry _ _ _) _ c.before.before.before.read-enumeration.ensures)
 
 returns-2 : tie.Need-returns-2 invariant-loop decreases-loop
-returns-2 c = way_at _ _ _ _ (passed-all _ _ _ _ _ _ c.loop-test.false c.before.loop.invariant)
+returns-2 c = way-at _ _ _ _ (passed-all _ _ _ _ _ _ c.loop-test.false c.before.loop.invariant)
 
 pub skip-enumerations-spec : {M : Type 1} → statement M
 skip-enumerations-spec =

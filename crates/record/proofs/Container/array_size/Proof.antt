@@ -13,7 +13,7 @@ returns c =
 returns-2 : tie.Need-returns-2
 returns-2 c =
     let a = c.before.before.before.before.args in
-    types-present a.file.now a.self (array_size_of a.index) c.before.enum-told2.given.1 c.array_size.ensures
+    types-present a.file.now a.self (array_size_of a.index) c.before.enum-told2.given.1 c.array-size.ensures
 
 pub array-size-spec : {M : Type 1} → statement M
 array-size-spec = tie.close (tie.spec (λ c. search rules) (λ c κs. search rules) (λ c. search rules) (λ c κs. search rules) returns returns-2)
