@@ -12,7 +12,7 @@ use Rattle.base.specs.Small.{field_type_number}
 use Rattle.type_entries.specs.Starts.{count_size}
 use Rattle.type_entries.specs.declared.FieldEntry.{FieldEntry}
 use Rattle.type_entries.specs.declared.FieldStep.{FieldStep}
-use Rattle.type_entries.specs.declared.FieldStep.TheVariants as field_step
+use Rattle.type_entries.specs.declared.FieldStep.TheVariants as field-step
 use Rattle.type_entries.specs.declared.FbTypeDescriptor.{FbTypeDescriptor}
 use Rattle.type_entries.specs.declared.FbTypeStep.{FbTypeStep}
 use Rattle.type_entries.specs.declared.FbTypeStep.TheVariants as fb-type-step
@@ -25,7 +25,7 @@ use Rattle.type_entries.specs.declared.UserFbDescriptor.{UserFbDescriptor}
 use Rattle.type_entries.specs.declared.UserFbStep.{UserFbStep}
 use Rattle.type_entries.specs.declared.UserFbStep.TheVariants as user-fb-step
 use Rattle.type_entries.specs.declared.TableStep.{TableStep}
-use Rattle.type_entries.specs.declared.TableStep.TheVariants as table_step
+use Rattle.type_entries.specs.declared.TableStep.TheVariants as table-step
 use Rattle.type_entries.specs.declared.Tables.{Tables}
 use Rattle.type_entries.specs.declared.TypeTablesAnswer.{TypeTablesAnswer}
 use Rattle.type_entries.specs.declared.TypeTablesAnswer.TheVariants as tables-answer
@@ -36,8 +36,8 @@ abbrev pub field_in : FieldEntry → Field
 field_in f = record { kind = field_type_number f.field_type; extra = f.field_extra }
 
 abbrev pub field_step : FieldStep → Step Field
-field_step (field_step.Refused e) = stops (fault_of e)
-field_step (field_step.Entry f m) = item (field_in f) m
+field_step (field-step.Refused e) = stops (fault_of e)
+field_step (field-step.Entry f m) = item (field_in f) m
 
 -- FB types: the code reads an FB type with all its fields and keeps the head
 
@@ -86,8 +86,8 @@ table_at at r = do
   give (record { at = at + count_size; count = length xs })
 
 abbrev pub table_step : TableStep → Step Table
-table_step (table_step.Refused e) = stops (fault_of e)
-table_step (table_step.Entries t m) = item t m
+table_step (table-step.Refused e) = stops (fault_of e)
+table_step (table-step.Entries t m) = item t m
 
 abbrev pub type_starts_from : TypeTablesAnswer → Got Tables
 type_starts_from (tables-answer.Refused e) = refused (fault_of e)
