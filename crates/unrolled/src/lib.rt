@@ -1,4 +1,6 @@
 // The compression function with its seven rounds written out, so that no message is permuted at run time. The plain form is in `compression`.
+#![tactic(auto)]
+
 ghost use Rattle.std.specs.Prelude.{◌≡◌};
 ghost use Rattle.compression.specs.Compression as Compression;
 ghost use Rattle.unrolled.specs.Schedule.{permuted};

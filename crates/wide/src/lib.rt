@@ -1,5 +1,7 @@
 // Four chunks hashed side by side. The body of the loop over the lanes is the whole compression, so that the compiler makes vector
 // instructions of it. A large function with two callers is not inlined, so this crate has its own copy of the rounds.
+#![tactic(auto)]
+
 ghost use Rattle.std.specs.Prelude.{◌≡◌, ◌+◌, ◌*◌, ◌≤◌, length};
 ghost use Rattle.compression.specs.Sizes.{block_len, chunk_len};
 ghost use Rattle.compression.specs.Compression as Compression;

@@ -1,0 +1,10 @@
+-- `wide::round1` meets its contract: its words are those of the message permuted once.
+use Rattle.compression.proofs.ByRows.{steps}
+use Rattle.unrolled.specs.Schedule.{permuted}
+use Rattle.wide.proofs.round1.Goals as goal
+
+pub returns : goal.returns
+unfolding permuted
+returns c =
+    steps c.args.v (permuted 1 c.args.m) c.well_formed.0.1.0.1
+    c.half-columns.ensures c.shifted.ensures c.half-diagonals.ensures c.back.ensures
