@@ -20,7 +20,7 @@ pub fn file_room() -> [u8; FILE_ROOM]
 }
 
 // Reads until `room` is full, the input ends or a read fails; the result is how many bytes of `room` are filled.
-pub fn read_full<R: Read>(input: &mut R, room: &mut [u8]) -> usize
+pub fn read_full(input: &mut impl Read, room: &mut [u8]) -> usize
     ensures { IsPrefixLen result room.new }
 {
     let mut done = 0;
