@@ -1,4 +1,6 @@
 // The code section: a directory of functions, and their bytecode behind it.
+#![tactic(auto)]
+
 ghost use Rattle.std.specs.Prelude.{◌≡◌, ◌+◌, ◌≤◌, length, drop};
 ghost use Rattle.reading.specs.Reader.{got};
 ghost use Rattle.reading.specs.Places.{step_of};

@@ -1,5 +1,7 @@
 // The constant pool of a container: its reader, its lookups and walks over it, over the file's own bytes. A lookup finds the entry at an index; what a
 // getter answers is picked from that answer, by a function that needs neither the file nor the section.
+#![tactic(auto)]
+
 ghost use Rattle.std.specs.Prelude.{◌≡◌, true, ◌+◌, ◌^◌, ◌≤◌, ◌<◌, length};
 ghost use Rattle.reading.specs.Numbers.{le, le_at, bytes_le};
 ghost use Rattle.reading.specs.Places.{step_at, step_of};

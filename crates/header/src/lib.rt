@@ -1,4 +1,6 @@
 // The header: 256 bytes at fixed places.
+#![tactic(auto)]
+
 ghost use Rattle.std.specs.Prelude.{◌≡◌, ◌+◌, ◌≤◌, length};
 ghost use Rattle.format.specs.Parts.{header_size, part};
 ghost use Rattle.format.specs.Header.{place_at, directory_of, runtime_of, header_of, types_flag, without_debug_bit};

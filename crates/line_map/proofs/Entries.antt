@@ -13,7 +13,6 @@ use Rattle.reading.specs.Fault.{short_input}
 use Rattle.reading.specs.Numbers.{le_at}
 use Rattle.reading.specs.Reader.{Read, fault, got, next, give, many}
 use Rattle.reading.specs.Answer.{Got, refused, found, ◌>>=◌, item_of}
-use Rattle.reading.specs.Places.{entry}
 use Rattle.reading.proofs.Reading.{number_at}
 use Rattle.reading.proofs.Width.{Fixed, fixed-give, fixed-bind, fixed_number, fixed-many, fixed-width}
 use Rattle.reading.proofs.Tables.{at_width, at-picked, index-out}

@@ -1,4 +1,6 @@
 // The debug section's line map, and the lookup of a source location in it. `s` is the section; the map of `n` entries starts at its place `at`.
+#![tactic(auto)]
+
 ghost use Rattle.std.specs.Prelude.{◌≡◌, ◌+◌, ◌*◌, ◌-◌, ◌≤◌, length, drop};
 ghost use Rattle.reading.specs.Reader.{got};
 ghost use Rattle.reading.specs.Places.{step_of};

@@ -15,7 +15,7 @@ use Rattle.reading.proofs.Reading.{number_at, bytes-at}
 use Rattle.reading.proofs.Width.{Width, Needs, Fixed, needs-none, needs-bind, width-check, width-bind, width-number, fixed-give, fixed-bind, fixed-bytes, fixed_number, fixed-width}
 use Rattle.reading.proofs.Local.{Local, local-give, local-bind, local-bytes, local-number, local-check}
 use Rattle.format.specs.Faults.{invalid_task_type}
-use Rattle.format.specs.Tasks.{Task, task, Program, program}
+use Rattle.format.specs.Tasks.{Task, task, program}
 use Rattle.format.proofs.Answers.{never}
 use Rattle.base.specs.Small.{task_type_number, task_type_of}
 use Rattle.base.specs.declared.task_type.TaskType.{TaskType}

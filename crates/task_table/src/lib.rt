@@ -1,4 +1,6 @@
 // The task section: a header of two counts and the shared globals size, then the tasks, then the program instances.
+#![tactic(auto)]
+
 ghost use Rattle.std.specs.Prelude.{◌≡◌, ◌+◌, ◌≤◌, length, drop};
 ghost use Rattle.reading.specs.Numbers.{le_at};
 ghost use Rattle.reading.specs.Reader.{got, many};

@@ -1,5 +1,7 @@
 // Text in a buffer that the caller lends: numbers in decimal, bytes in hexadecimal, lines of them. A line that fits is written at the place `at`,
 // and the place behind it is returned; a line that does not fit leaves the buffer unchanged.
+#![tactic(auto)]
+
 ghost use Rattle.std.specs.Prelude.{◌+◌, ◌*◌, ◌/◌, ◌%◌, ◌<◌, ◌≤◌, ◌≡◌, [], ◌∷◌, ◌++◌, leb, length};
 ghost use Rattle.lent.specs.Output.{Wrote, Puts};
 ghost use Rattle.text.specs.Text.{ascii, digits, decimal, numbers, hex_digit, hexes, hex_or_dash, ended, line, dash_line, bytes_line};

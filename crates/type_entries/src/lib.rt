@@ -1,4 +1,6 @@
 // The entries of the type section, each read at a place of the section `s`, and the places of its tables.
+#![tactic(auto)]
+
 ghost use Rattle.std.specs.Prelude.{◌≡◌, ◌≤◌, length};
 ghost use Rattle.reading.specs.Reader.{many, counted, counted_or_none};
 ghost use Rattle.reading.specs.Places.{step_at, way_at};
