@@ -7,9 +7,7 @@ use Rattle.reading.specs.Answer.{found}
 use Rattle.format.specs.Parts.{hash_limit}
 use Rattle.hasher.specs.State.{capacity}
 use Rattle.blake3.proofs.Whole.{finish-over, finish-within}
-use borrow.Author.Rules.{rules}
-use Rattle.blake3.proofs.finish.Statement.{statement}
-use Rattle.blake3.proofs.finish.Tie as tie
+use Rattle.blake3.proofs.finish.Goals as goal
 
 -- what `taken` reports is over the limit exactly if the state's fill is
 more : (f : ℕ) {n : ℕ} → n ≡ min f capacity → hash_limit < n → hash_limit < f
@@ -18,13 +16,10 @@ more f e p = omega arith
 no_more : (f : ℕ) {n : ℕ} → n ≡ min f capacity → n ≤ hash_limit → f ≤ hash_limit
 no_more f e p = omega arith
 
-returns : tie.Need-returns
-returns c = finish-over _ (more _ c.before.taken.ensures c.if1.true)
+pub returns-then-taken-gt-HASH_LIMIT : goal.returns-then-taken-gt-HASH_LIMIT
+returns-then-taken-gt-HASH_LIMIT c = finish-over _ (more _ c.taken.ensures c.if-taken-gt-HASH_LIMIT.true)
 
-returns-2 : tie.Need-returns-2
-returns-2 c =
-    ap found (c.from-words.ensures ∙ ap word_bytes c.before.finish.ensures)
-    ∙ finish-within _ (no_more _ c.before.before.before.taken.ensures c.before.before.if1.false)
-
-pub finish_spec : {M : Type 1} → statement M
-finish_spec = tie.close (tie.spec (λ c κs. search rules) returns (λ c κs. search rules) (λ c κs. search rules) returns-2)
+pub returns : goal.returns
+returns c =
+    ap found (c.from_words.ensures ∙ ap word_bytes c.finish.ensures)
+    ∙ finish-within _ (no_more _ c.taken.ensures c.if-taken-gt-HASH_LIMIT.false)

@@ -11,8 +11,7 @@ use Rattle.hasher.specs.Hash.{root_words, hash_words, max_depth}
 use Rattle.hasher.proofs.Tree.{tree-chunk}
 use Rattle.hasher.proofs.Chunks.{one_chunk}
 use borrow.Author.Rules.{rules}
-use Rattle.hasher.proofs.one_chunk.Statement.{statement}
-use Rattle.hasher.proofs.one_chunk.Tie as tie
+use Rattle.hasher.proofs.one_chunk.Goals as goal
 
 steps : (s : List ℕ) {n f : ℕ} {v c m r : List ℕ} → length s ≤ chunk_len → n ≡ (length s - 1) / block_len → v ≡ iv → c ≡ chained n v 0 0 (drop 0 s)
     → m ≡ words (drop (block_len * n) s) → f ≡ start_flag n
@@ -21,25 +20,8 @@ unfolding hash_words
 steps s {n = n} h en ev ec em ef er =
     cc (tree-chunk max_depth 0 s h, one_chunk s n h en, length-drop (block_len * n) s)
 
-returns : tie.Need-returns
+pub returns : goal.returns
 returns c =
-    let a = c.before.before.before.before.before.before.before.args in
-    steps a.s.now (search rules) c.before.before.before.before.before.before_last.ensures c.before.before.before.before.iv.ensures
-    c.before.before.before.chain.ensures c.before.before.last-words.ensures c.before.start-flag.ensures.0 c.root-words.ensures
-
-pub one-chunk-spec : {M : Type 1} → statement M
-one-chunk-spec =
-    tie.close
-    (tie.spec
-    (λ c κs. search rules)
-    (λ c. search rules)
-    (λ c κs. search rules)
-    (λ c κs. search rules)
-    (λ c κs. search rules)
-    (λ c. search rules)
-    (λ c. search rules)
-    (λ c. search rules)
-    (λ c κs. search rules)
-    (λ c. search rules)
-    (λ c κs. search rules)
-    returns)
+    let a = c.args in
+    steps a.s.now (search rules) c.before_last-n.ensures c.iv.ensures
+    c.chain-cv.ensures c.last_words-block_words.ensures c.start_flag.ensures.0 c.root_words.ensures
