@@ -7,17 +7,17 @@ use Rattle.format.specs.Lookups.{array_of}
 use Rattle.format.specs.Types.{type_tables}
 use Rattle.base.proofs.FileLookups.{lookup-refused, lookup-found}
 use Rattle.type_section.proofs.array.Goals as goal
-use Rattle.type_section.proofs.array.Goals.{After-struct_known-1}
+use Rattle.type_section.proofs.array.Goals.{In-Part}
 
 -- the section's part lies in the file
-ends : (c : After-struct_known-1) → c.in-Part.p.offset + c.in-Part.p.size ≤ length c.args.file.now
+ends : (c : In-Part) → c.in-Part.p.offset + c.in-Part.p.size ≤ length c.args.file.now
 ends c = rw c.in-Part.is at c.section_part.ensures.1
 
 pub overflow_add-end : goal.overflow_add-end
-overflow_add-end c = omega (arith, ends (goal.at.overflow_add-end c).After-struct_known-1)
+overflow_add-end c = omega (arith, ends (goal.at.overflow_add-end c).In-Part)
 
 pub slice_bounds-find_array-end : goal.slice_bounds-find_array-end
-slice_bounds-find_array-end c = omega (arith, ends (goal.at.slice_bounds-find_array-end c).After-struct_known-1)
+slice_bounds-find_array-end c = omega (arith, ends (goal.at.slice_bounds-find_array-end c).In-Part)
 
 pub returns-in-Refused : goal.returns-in-Refused
 returns-in-Refused c =

@@ -10,17 +10,17 @@ use Rattle.base.proofs.FileLookups.{sliced, lookup-refused, lookup-found}
 use Rattle.type_section.specs.Answers.{fb_type_placed_from}
 use Rattle.type_section.proofs.Finding.{head-found}
 use Rattle.type_section.proofs.fb_type.Goals as goal
-use Rattle.type_section.proofs.fb_type.Goals.{After-struct_known-1}
+use Rattle.type_section.proofs.fb_type.Goals.{In-Part}
 
 -- the section's part lies in the file
-ends : (c : After-struct_known-1) → c.in-Part.p.offset + c.in-Part.p.size ≤ length c.args.file.now
+ends : (c : In-Part) → c.in-Part.p.offset + c.in-Part.p.size ≤ length c.args.file.now
 ends c = rw c.in-Part.is at c.section_part.ensures.1
 
 pub overflow_add-end : goal.overflow_add-end
-overflow_add-end c = omega (arith, ends (goal.at.overflow_add-end c).After-struct_known-1)
+overflow_add-end c = omega (arith, ends (goal.at.overflow_add-end c).In-Part)
 
 pub slice_bounds-find_fb_type-end : goal.slice_bounds-find_fb_type-end
-slice_bounds-find_fb_type-end c = omega (arith, ends (goal.at.slice_bounds-find_fb_type-end c).After-struct_known-1)
+slice_bounds-find_fb_type-end c = omega (arith, ends (goal.at.slice_bounds-find_fb_type-end c).In-Part)
 
 pub returns-in-Refused : goal.returns-in-Refused
 returns-in-Refused c =

@@ -6,17 +6,17 @@ use Rattle.base.specs.Section.{place_in}
 use Rattle.format.specs.Types.{user_fb}
 use Rattle.base.proofs.FileLookups.{step-refused, step-found}
 use Rattle.type_section.proofs.next_user_fb.Goals as goal
-use Rattle.type_section.proofs.next_user_fb.Goals.{After-struct_known-1}
+use Rattle.type_section.proofs.next_user_fb.Goals.{In-Part}
 
 -- the section's part lies in the file
-ends : (c : After-struct_known-1) → c.in-Part.p.offset + c.in-Part.p.size ≤ length c.args.file.now
+ends : (c : In-Part) → c.in-Part.p.offset + c.in-Part.p.size ≤ length c.args.file.now
 ends c = rw c.in-Part.is at c.section_part.ensures.1
 
 pub overflow_add-end : goal.overflow_add-end
-overflow_add-end c = omega (arith, ends (goal.at.overflow_add-end c).After-struct_known-1)
+overflow_add-end c = omega (arith, ends (goal.at.overflow_add-end c).In-Part)
 
 pub slice_bounds-next_user_fb_in-end : goal.slice_bounds-next_user_fb_in-end
-slice_bounds-next_user_fb_in-end c = omega (arith, ends (goal.at.slice_bounds-next_user_fb_in-end c).After-struct_known-1)
+slice_bounds-next_user_fb_in-end c = omega (arith, ends (goal.at.slice_bounds-next_user_fb_in-end c).In-Part)
 
 pub returns-in-Refused : goal.returns-in-Refused
 returns-in-Refused c =

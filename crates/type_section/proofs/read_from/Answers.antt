@@ -9,22 +9,22 @@ use Rattle.type_entries.proofs.Standing.{counts-few}
 use Rattle.type_section.proofs.Finding.{counts_in}
 use Rattle.format.proofs.Answers.{refused-then, found-then}
 use Rattle.type_section.proofs.read_from.Goals as goal
-use Rattle.type_section.proofs.read_from.Goals.{After-struct_known-1}
+use Rattle.type_section.proofs.read_from.Goals.{In-Tables}
 
 -- the counts fit two bytes
-told : (c : After-struct_known-1) → (c.in-Tables.t.fb_types.count < 65536) × (c.in-Tables.t.arrays.count < 65536) × (c.in-Tables.t.user_fbs.count < 65536)
+told : (c : In-Tables) → (c.in-Tables.t.fb_types.count < 65536) × (c.in-Tables.t.arrays.count < 65536) × (c.in-Tables.t.user_fbs.count < 65536)
 told c =
     counts-few c.args.s.now c.in-Tables.t (λ i. omega (arith, c.type_inv.s i))
     (rw c.in-Tables.is at c.tables_of.ensures)
 
 pub overflow_cast-fb_types : goal.overflow_cast-fb_types
-overflow_cast-fb_types c = omega (arith, (told (goal.at.overflow_cast-fb_types c).After-struct_known-1).0)
+overflow_cast-fb_types c = omega (arith, (told (goal.at.overflow_cast-fb_types c).In-Tables).0)
 
 pub overflow_cast-arrays : goal.overflow_cast-arrays
-overflow_cast-arrays c = omega (arith, (told (goal.at.overflow_cast-arrays c).After-struct_known-1).1)
+overflow_cast-arrays c = omega (arith, (told (goal.at.overflow_cast-arrays c).In-Tables).1)
 
 pub overflow_cast-user_fbs : goal.overflow_cast-user_fbs
-overflow_cast-user_fbs c = omega (arith, (told (goal.at.overflow_cast-user_fbs c).After-struct_known-1).2)
+overflow_cast-user_fbs c = omega (arith, (told (goal.at.overflow_cast-user_fbs c).In-Tables).2)
 
 pub returns-in-Refused : goal.returns-in-Refused
 returns-in-Refused c =
