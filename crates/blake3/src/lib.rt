@@ -1,4 +1,6 @@
 // BLAKE3 of a whole input, and the hash state as document 01 has it: lent to the feeding step and altered there.
+#![tactic(auto)]
+
 ghost use Rattle.std.specs.Prelude.{◌≡◌};
 ghost use Rattle.hasher.specs.State.{start, fed};
 ghost use Rattle.blake3.specs.Blake3.{hash_from, hash_asked, finish_asked};

@@ -29,52 +29,52 @@ fn kind_of(line: &[u8]) -> u16 {
 // Prints some fields of an answer about tasks, types, constants or code, by their places (`print_answer`): a task's interval, a program's variable count, an
 // FB type's field count, a field's extra, an array's stride, a user FB's variable offset, a function's length, the place and size of a string or of bytecode;
 // of others the first number.
-fn print_run(file: &[u8], kind: u16, answer: Numbers) {
+fn print_run(rt: &impl Print, file: &[u8], kind: u16, answer: Numbers) {
     match kind {
-        TASK | PROGRAM => print_answer(file, answer, b"n5"),
-        FB_TYPE | FIELD => print_answer(file, answer, b"n2"),
-        ARRAY => print_answer(file, answer, b"n4"),
-        USER_FB | FUNCTION => print_answer(file, answer, b"n3"),
-        GET_I32 | GET_I64 => print_answer(file, answer, b"s1"),
-        GET_STR | BYTECODE => print_answer(file, answer, b"n1n2"),
-        _ => print_answer(file, answer, b"n1"),
+        TASK | PROGRAM => print_answer(rt, file, answer, b"n5"),
+        FB_TYPE | FIELD => print_answer(rt, file, answer, b"n2"),
+        ARRAY => print_answer(rt, file, answer, b"n4"),
+        USER_FB | FUNCTION => print_answer(rt, file, answer, b"n3"),
+        GET_I32 | GET_I64 => print_answer(rt, file, answer, b"s1"),
+        GET_STR | BYTECODE => print_answer(rt, file, answer, b"n1n2"),
+        _ => print_answer(rt, file, answer, b"n1"),
     }
 }
 
 // The same of the debug tables: a source line and column; a variable's index, name and type name; a function's id and name; a string layout's variable, data
 // offset and length; a path; an enumeration's name and value count; a value's name.
-fn print_debug(file: &[u8], kind: u16, answer: Numbers) {
+fn print_debug(rt: &impl Print, file: &[u8], kind: u16, answer: Numbers) {
     match kind {
-        LINE | LINE_ENTRY => print_answer(file, answer, b"n4n5"),
-        VARIABLE => print_answer(file, answer, b"n1t5t7"),
-        FUNCTION_NAME => print_answer(file, answer, b"n1t2"),
-        STRING_LAYOUT => print_answer(file, answer, b"n1n2n3"),
-        SOURCE_FILE | ENUMERATION_VALUE => print_answer(file, answer, b"t1"),
-        ENUMERATION => print_answer(file, answer, b"t1n3"),
+        LINE | LINE_ENTRY => print_answer(rt, file, answer, b"n4n5"),
+        VARIABLE => print_answer(rt, file, answer, b"n1t5t7"),
+        FUNCTION_NAME => print_answer(rt, file, answer, b"n1t2"),
+        STRING_LAYOUT => print_answer(rt, file, answer, b"n1n2n3"),
+        SOURCE_FILE | ENUMERATION_VALUE => print_answer(rt, file, answer, b"t1"),
+        ENUMERATION => print_answer(rt, file, answer, b"t1n3"),
         _ => {}
     }
 }
 
 // Some bytes of the file that a lookup returns.
-fn returned(bytes: &[u8]) {
-    write(b"  returned: \"");
-    write(bytes);
-    write(b"\"\n");
+fn returned(rt: &impl Print, bytes: &[u8]) {
+    write(rt, b"  returned: \"");
+    write(rt, bytes);
+    write(rt, b"\"\n");
 }
 
 // The lookup at an index, and at an index within it where it takes two; of a string and of bytecode also the bytes that are returned.
-fn lookup(c: Container, file: &[u8], kind: u16, i: u16, j: u16) {
+fn lookup(rt: &impl Print, c: Container, file: &[u8], kind: u16, i: u16, j: u16) {
     let answer = lookup_kinds::lookup(c, file, kind, i, j);
     if kind < LINE {
-        print_run(file, kind, answer);
+        print_run(rt, file, kind, answer);
     } else {
-        print_debug(file, kind, answer);
+        print_debug(rt, file, kind, answer);
     }
     if kind == GET_STR {
-        returned(c.get_str(file, ConstantIndex(i)));
+        returned(rt, c.get_str(file, ConstantIndex(i)));
     }
     if kind == BYTECODE {
-        returned(c.get_function_bytecode(file, FunctionId(i)));
+        returned(rt, c.get_function_bytecode(file, FunctionId(i)));
     }
 }
 
@@ -104,7 +104,7 @@ fn start(c: Container, file: &[u8], walk: u16) -> StartAnswer {
 }
 
 // How many entries the walk starts with.
-fn walk(c: Container, file: &[u8], walk: u16) {
+fn walk(rt: &impl Print, c: Container, file: &[u8], walk: u16) {
     let answer = match start(c, file, walk) {
         StartAnswer::Refused(e) => refusal(e),
         StartAnswer::Start(t) => Numbers {
@@ -112,7 +112,7 @@ fn walk(c: Container, file: &[u8], walk: u16) {
             count: 2,
         },
     };
-    print_answer(file, answer, b"n1");
+    print_answer(rt, file, answer, b"n1");
 }
 
 // The record with 21 as the size of its code, if that is asked for.
@@ -127,81 +127,81 @@ fn shortened(c: Container, short_code: bool) -> Container {
     c
 }
 
-fn bad_place(c: Container, file: &[u8]) {
+fn bad_place(rt: &impl Print, c: Container, file: &[u8]) {
     match c.bad_place(file) {
-        BadPlace::None => write(b" none"),
-        BadPlace::At(p) => print_number(p as u64),
+        BadPlace::None => write(rt, b" none"),
+        BadPlace::At(p) => print_number(rt, p as u64),
     }
-    write(b"\n");
+    write(rt, b"\n");
 }
 
-fn unreadable(fault: DebugFault) {
+fn unreadable(rt: &impl Print, fault: DebugFault) {
     match fault {
-        DebugFault::Short => write(b" ends too early"),
+        DebugFault::Short => write(rt, b" ends too early"),
         DebugFault::BadText(p) => {
-            write(b" bad at");
-            print_number(p as u64);
+            write(rt, b" bad at");
+            print_number(rt, p as u64);
         }
     }
 }
 
-fn debug_state(c: Container, file: &[u8]) {
+fn debug_state(rt: &impl Print, c: Container, file: &[u8]) {
     match container::debug_state(file, c.header) {
-        DebugState::Empty => write(b" empty"),
-        DebugState::Outside => write(b" outside"),
-        DebugState::HashDiffers => write(b" hash differs"),
-        DebugState::Unreadable(e) => unreadable(e),
-        DebugState::Read(_) => write(b" read"),
+        DebugState::Empty => write(rt, b" empty"),
+        DebugState::Outside => write(rt, b" outside"),
+        DebugState::HashDiffers => write(rt, b" hash differs"),
+        DebugState::Unreadable(e) => unreadable(rt, e),
+        DebugState::Read(_) => write(rt, b" read"),
     }
-    write(b"\n");
+    write(rt, b"\n");
 }
 
 // A row and how many it replaced.
-fn table_row(t: TableRow) {
+fn table_row(rt: &impl Print, t: TableRow) {
     let row = t.row;
     match row {
-        MaybeRow::None => write(b" none"),
-        MaybeRow::At(i) => print_number(i as u64),
+        MaybeRow::None => write(rt, b" none"),
+        MaybeRow::At(i) => print_number(rt, i as u64),
     }
-    write(b"+");
-    write_decimal(t.replaced as u64);
+    write(rt, b"+");
+    write_decimal(rt, t.replaced as u64);
 }
 
 // Of the tags 1, 2, 3, 4, 6 and 9.
-fn in_force(u: RowsInForce) {
-    table_row(u.lines);
-    table_row(u.variables);
-    table_row(u.functions);
-    table_row(u.strings);
-    table_row(u.files);
-    table_row(u.enumerations);
-    write(b"\n");
+fn in_force(rt: &impl Print, u: RowsInForce) {
+    table_row(rt, u.lines);
+    table_row(rt, u.variables);
+    table_row(rt, u.functions);
+    table_row(rt, u.strings);
+    table_row(rt, u.files);
+    table_row(rt, u.enumerations);
+    write(rt, b"\n");
 }
 
 // The line's lookup, walk, bad place or state over a file and the record of another, or that record's rows. An unknown word prints nothing.
-fn ask(c: Container, file: &[u8], line: &[u8]) {
+fn ask(rt: &impl Print, c: Container, file: &[u8], line: &[u8]) {
     let kind = kind_of(line);
     if kind < KIND_COUNT {
-        lookup(c, file, kind, index(line, 1), index(line, 2));
+        lookup(rt, c, file, kind, index(line, 1), index(line, 2));
         return;
     }
     if kind < KIND_COUNT + WALK_COUNT {
-        walk(c, file, kind - KIND_COUNT);
+        walk(rt, c, file, kind - KIND_COUNT);
         return;
     }
     if kind == KIND_COUNT + WALK_COUNT {
-        bad_place(c, file);
+        bad_place(rt, c, file);
     }
     if kind == KIND_COUNT + WALK_COUNT + 1 {
-        debug_state(c, file);
+        debug_state(rt, c, file);
     }
     if kind == KIND_COUNT + WALK_COUNT + 2 {
-        in_force(c.in_force);
+        in_force(rt, c.in_force);
     }
 }
 
-pub fn over(own: &[u8], short_code: bool, file: &[u8], line: &[u8]) {
+pub fn over(rt: &impl Print, own: &[u8], short_code: bool, file: &[u8], line: &[u8]) {
     if let ContainerAnswer::Container(c) = container::read_from(own) {
-        ask(shortened(c, short_code), file, line);
+        ask(rt, shortened(c, short_code), file, line);
     }
 }

@@ -28,20 +28,20 @@ fn word_of(line: &[u8]) -> u8 {
 }
 
 // What a line prints; one with an unknown first word prints its name and no answer.
-fn print(word: u8, line: &[u8], file: &[u8], own: &[u8], short_code: bool) {
+fn print(rt: &impl Print, word: u8, line: &[u8], file: &[u8], own: &[u8], short_code: bool) {
     if is_step(line) {
         return;
     }
     if word == SHORT_CODE {
         return;
     }
-    print_name(text(line));
+    print_name(rt, text(line));
     match word {
-        TITLE => write(b"\n"),
-        LOAD => loads::load(file),
-        PROGRAM => loads::load_in_program(file),
-        HASH_ALONE => loads::hash_alone(line),
-        _ => lookups::over(own, short_code, file, line),
+        TITLE => write(rt, b"\n"),
+        LOAD => loads::load(rt, file),
+        PROGRAM => loads::load_in_program(rt, file),
+        HASH_ALONE => loads::hash_alone(rt, line),
+        _ => lookups::over(rt, own, short_code, file, line),
     }
 }
 
@@ -54,7 +54,7 @@ fn is_short(word: u8, short_code: bool) -> bool {
     }
 }
 
-fn run(cases: &[u8], file: &mut [u8], own: &mut [u8]) {
+fn run(rt: &impl Print, cases: &[u8], file: &mut [u8], own: &mut [u8]) {
     let mut now = START;
     let mut short_code = false;
     for _ in 0..MOST_STEPS {
@@ -66,6 +66,7 @@ fn run(cases: &[u8], file: &mut [u8], own: &mut [u8]) {
         let word = word_of(line);
         short_code = is_short(word, short_code);
         print(
+            rt,
             word,
             line,
             first(file, now.file),
@@ -77,10 +78,10 @@ fn run(cases: &[u8], file: &mut [u8], own: &mut [u8]) {
     }
 }
 
-fn main() {
+fn main(rt: HostRuntime) {
     let mut cases = file_room();
-    let n = read_input(&mut cases);
+    let n = read_input(&rt, &mut cases);
     let mut file = file_room();
     let mut own = file_room();
-    run(&cases[..n], &mut file, &mut own);
+    run(&rt, &cases[..n], &mut file, &mut own);
 }

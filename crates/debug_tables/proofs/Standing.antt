@@ -8,7 +8,7 @@ use Rattle.reading.specs.Fault.{Fault}
 use Rattle.reading.specs.Reader.{Read, fault, got, Reader, next, give, counted}
 use Rattle.reading.specs.Answer.{refused, found, item_of}
 use Rattle.reading.specs.Places.{Holds}
-use Rattle.reading.proofs.Reading.{never, both}
+use Rattle.reading.proofs.Reading.{both}
 use Rattle.reading.proofs.Left.{LeftOf, left-all, left-taken}
 use Rattle.reading.proofs.Local.{local_counted, local-bytes}
 use Rattle.reading.proofs.Tables.{counted-stands}

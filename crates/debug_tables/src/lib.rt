@@ -1,4 +1,6 @@
 // The rows of the debug section `s`, and where its tables in force stand in it. Names and paths are skipped: their place in the file does not matter.
+#![tactic(auto)]
+
 pub mod in_force;
 
 ghost use Rattle.std.specs.Prelude.{◌≡◌, ◌≤◌, length};

@@ -1,5 +1,7 @@
 // Texts, names and paths of the debug section. `s` is the section and `base` its place in the file; each text is answered as a part of the file.
 // A name has a 1-byte length, a path a 2-byte length, and both must be UTF-8.
+#![tactic(auto)]
+
 ghost use Rattle.std.specs.Prelude.{◌≡◌, ◌≤◌, length};
 ghost use Rattle.reading.specs.Reader.{many};
 ghost use Rattle.reading.specs.Places.{step_at, way_at, step_of};

@@ -1,5 +1,7 @@
 // The lister's lines for the entries of a file's tables, one function for each kind of entry. Each writes its line at the place `at` of the lent
 // buffer, if it fits, and returns the place behind it.
+#![tactic(auto)]
+
 ghost use Rattle.std.specs.Prelude.{[], ◌∷◌};
 ghost use Rattle.lent.specs.Output.{Puts};
 ghost use Rattle.text.specs.Text.{ascii, bytes_line};

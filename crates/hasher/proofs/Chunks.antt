@@ -4,8 +4,8 @@ use mathlib.Core.List.{List, [], ◌∷◌, ◌++◌}
 use Prim.Native.Nat.{ℕ, zero, suc, ◌+◌, ◌*◌, ◌-◌, ◌/◌, ◌≤◌, ◌<◌}
 use native.Mathlib.Omega.{arith}
 use native.Mathlib.Numerals.{add-one}
-use lib.ListN.{length, get_or, take, drop, set, replicate, length-append, length-drop, take-append-drop}
-use lib.Seq.{take-append-le, drop-append-le, length-take-le, take-suc, get_or-drop, set_at, append_snoc}
+use lib.ListN.{length, take, drop, set, replicate, length-append, length-drop, take-append-drop}
+use lib.Seq.{take-append-le, drop-append-le, length-take-le, set_at, append_snoc}
 use borrow.Author.Tests.{le-leb, lt-leb}
 use Rattle.reading.proofs.Parts.{drop-replicate}
 use Rattle.compression.specs.Sizes.{block_len, chunk_len, last_block}

@@ -60,10 +60,17 @@ pub tree-chunk : (e t : ℕ) (bs : List ℕ) → length bs ≤ chunk_len → tre
 tree-chunk e t bs h = tree-deeper 0 e t bs (omega arith) (omega arith) ∙ tree-none t bs
 
 -- ---- the tree is the current chunk joined with the values that wait
+under-cons : (o : Output) (v : List ℕ) (s : List (List ℕ)) → under o (v ∷ s) ≡ parent_output v (chaining_value (under o s))
+unfolding under
+under-cons o v s = refl
+
+none-waiting : (t n : ℕ) (cs : List ℕ) → t + n ≡ t → under (chunk_output (t + n) cs) (waiting 0 t []) ≡ tree_from 0 t cs
+unfolding waiting under node
+none-waiting t n cs e = ap (λ (m : ℕ). chunk_output m cs) e
+
 pub under-waiting : (d t n : ℕ) (fs cs : List ℕ) → length fs ≡ chunk_len * n → n < 2 ^ d → length cs ≤ chunk_len → (0 < n → 0 < length cs)
     → under (chunk_output (t + n) cs) (waiting d t fs) ≡ tree_from d t (fs ++ cs)
-unfolding waiting under node
-under-waiting zero t n [] cs e h l p = ap (λ (m : ℕ). chunk_output m cs) (omega arith)
+under-waiting zero t n [] cs e h l p = none-waiting t n cs (omega arith)
 under-waiting zero t n (x ∷ fs) cs e h l p = absurd (omega arith)
 under-waiting (suc d) t n fs cs e h l p =
     let both = length-append fs cs in
@@ -75,7 +82,9 @@ under-waiting (suc d) t n fs cs e h l p =
           let rest =
           under-waiting d (t + 2 ^ d) (n - 2 ^ d) (drop (chunk_len * 2 ^ d) fs) cs (omega (arith, length-drop (chunk_len * 2 ^ d) fs)) (omega arith) l (λ z. p (omega arith)) in
           let at : t + n ≡ t + 2 ^ d + (n - 2 ^ d) = omega arith in
-          rw (waiting-large d t fs big, tree-large d t (fs ++ cs) more, take-append-le (chunk_len * 2 ^ d) fs cs big, drop-append-le (chunk_len * 2 ^ d) fs cs big, at, rest)
+          let above : under (chunk_output (t + n) cs) (waiting d (t + 2 ^ d) (drop (chunk_len * 2 ^ d) fs)) ≡ tree_from d (t + 2 ^ d) (drop (chunk_len * 2 ^ d) fs ++ cs) = rw at rest in
+          rw (waiting-large d t fs big, tree-large d t (fs ++ cs) more, take-append-le (chunk_len * 2 ^ d) fs cs big, drop-append-le (chunk_len * 2 ^ d) fs cs big)
+          (under-cons _ _ _ ∙ ap (λ (o : Output). parent_output (chaining_value (tree_from d t (take (chunk_len * 2 ^ d) fs))) (chaining_value o)) above)
     ]
 
 -- ---- how many values wait: one for each set bit of the count, so at most d for fewer than 2 ^ d chunks

@@ -1,4 +1,6 @@
 // BLAKE3's hash state: fed in any division into parts, and finished. No state is refused; `specs/State.antt` says what becomes of each.
+#![tactic(auto)]
+
 ghost use Rattle.std.specs.Prelude.{◌≡◌, List, ℕ, ◌+◌, ◌*◌, ◌-◌, ◌/◌, ◌<◌, ◌≤◌, min, length, drop};
 ghost use Rattle.compression.specs.Sizes.{block_len, chunk_len, last_block};
 ghost use Rattle.compression.specs.Word.{words};

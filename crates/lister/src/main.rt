@@ -3,10 +3,10 @@
 use file_listing::{page, put_on_page};
 use programs::{file_room, first, read_input, write};
 
-fn main() {
+fn main(rt: HostRuntime) {
     let mut file = file_room();
-    let n = read_input(&mut file);
+    let n = read_input(&rt, &mut file);
     let mut text = page();
     let end = put_on_page(&mut text, &file[..n]);
-    write(first(&text, end));
+    write(&rt, first(&text, end));
 }

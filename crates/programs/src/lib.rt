@@ -1,11 +1,13 @@
 // What the programs share: room for a file and one byte more, reading it from standard input, and writing to standard output. A longer input is cut one byte
 // beyond the programs' limit; a program then answers as for the whole of it (`read-on` of `format`'s claims).
+#![tactic(auto)]
+
 ghost use Rattle.std.specs.Prelude.{◌+◌, ◌≡◌, take, replicate};
-ghost use Rattle.io.specs.Counts.{IsPrefixLen};
+ghost use Rattle.std.specs.Counts.{IsPrefixLen};
 ghost use Rattle.format.specs.Parts.{program_limit};
 
 use base::section::PROGRAM_LIMIT;
-use libc::{STDIN_FILENO, STDOUT_FILENO};
+use std::io::Read;
 
 // One byte beyond the programs' limit.
 pub const FILE_ROOM: usize = PROGRAM_LIMIT + 1;
@@ -17,12 +19,31 @@ pub fn file_room() -> [u8; FILE_ROOM]
     [0; FILE_ROOM]
 }
 
-// Reads standard input until `room` is full, the input ends or a read fails; the result is how many bytes of `room` are filled. With less room
-// a longer input would pass for one within the limit.
-pub fn read_input(room: &mut [u8; FILE_ROOM]) -> usize
+// Reads until `room` is full, the input ends or a read fails; the result is how many bytes of `room` are filled.
+pub fn read_full(input: &mut impl Read, room: &mut [u8]) -> usize
     ensures { IsPrefixLen result room.new }
 {
-    io::read_full(STDIN_FILENO, room)
+    let mut done = 0;
+    while done < room.len() {
+        match input.read(&mut room[done..]) {
+            Ok(n) => {
+                if n == 0 {
+                    break;
+                }
+                done += n;
+            }
+            Err(_) => break,
+        }
+    }
+    done
+}
+
+// Reads standard input until `room` is full, the input ends or a read fails; the result is how many bytes of `room` are filled. With less room
+// a longer input would pass for one within the limit.
+pub fn read_input(rt: &impl Input, room: &mut [u8; FILE_ROOM]) -> usize
+    ensures { IsPrefixLen result room.new }
+{
+    read_full(&mut rt.reader(), room)
 }
 
 // The first n bytes, or all of them if there are fewer.
@@ -35,12 +56,12 @@ pub fn first(bytes: &[u8], n: usize) -> &[u8]
     bytes
 }
 
-// Writes to standard output.
-pub fn write(bytes: &[u8]) {
-    io::write_all(STDOUT_FILENO, bytes);
+// Writes to standard output. A write that fails is not reported.
+pub fn write(rt: &impl Print, bytes: &[u8]) {
+    let _ = rt.write_all(bytes);
 }
 
-// Writes a number in decimal.
-pub fn write_decimal(n: u64) {
-    io::print_decimal(STDOUT_FILENO, n);
+// Writes a number in decimal. A write that fails is not reported.
+pub fn write_decimal(rt: &impl Print, n: u64) {
+    let _ = rt.print(n);
 }

@@ -3,9 +3,7 @@
 ghost use Rattle.std.specs.Prelude.{◌<◌};
 
 use file_listing::{page, put_on_page};
-use io::read_full;
-use libc::STDIN_FILENO;
-use programs::{first, write};
+use programs::{first, read_full, write};
 
 // More than the files have.
 const ROOM: usize = 262144;
@@ -20,14 +18,14 @@ fn wide(b: u8) -> usize
     b as usize
 }
 
-fn list(file: &[u8]) {
+fn list(rt: &impl Print, file: &[u8]) {
     let mut text = page();
     let end = put_on_page(&mut text, file);
-    write(first(&text, end));
-    write(b".\n");
+    write(rt, first(&text, end));
+    write(rt, b".\n");
 }
 
-fn replay(files: &[u8]) {
+fn replay(rt: &impl Print, files: &[u8]) {
     let mut at = 0;
     while at < files.len() {
         if files.len() - at < 2 {
@@ -39,13 +37,13 @@ fn replay(files: &[u8]) {
             return;
         }
         let end = start + size;
-        list(&files[start..end]);
+        list(rt, &files[start..end]);
         at = end;
     }
 }
 
-fn main() {
+fn main(rt: HostRuntime) {
     let mut files = room();
-    let n = read_full(STDIN_FILENO, &mut files);
-    replay(&files[..n]);
+    let n = read_full(&mut rt.reader(), &mut files);
+    replay(&rt, &files[..n]);
 }

@@ -8,7 +8,7 @@ use lib.Seq.{drop-drop}
 use Rattle.reading.specs.Fault.{Fault}
 use Rattle.reading.specs.Reader.{got, many}
 use Rattle.reading.specs.Answer.{Got, refused, found, ◌>>=◌, item_of, indexed}
-use Rattle.reading.specs.Places.{Step, stops, item, Reads, Way, stops_by, on_to, Goes, left_of, Holds, ends, entry}
+use Rattle.reading.specs.Places.{Step, stops, item, Reads, Way, stops_by, on_to, Goes, left_of, Holds, entry}
 use Rattle.reading.specs.declared.Table.{Table}
 use Rattle.reading.proofs.Width.{fixed-width}
 use Rattle.reading.proofs.Parts.{same_place}

@@ -1,4 +1,6 @@
 // The type section: its reader, lookups by position, and walks over its tables. A lookup reads its section again and trusts no count.
+#![tactic(auto)]
+
 ghost use Rattle.std.specs.Prelude.{◌≡◌};
 ghost use Rattle.reading.specs.Places.{step_of};
 ghost use Rattle.format.specs.Types.{field, array, user_fb};

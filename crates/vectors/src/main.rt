@@ -9,13 +9,17 @@ use base::error::ContainerError;
 use blake3::{HASH_LIMIT, HashAnswer};
 use compression::{BLOCK_LEN, CHUNK_LEN};
 use hasher::{CAPACITY, Hasher};
-use libc::STDOUT_FILENO;
+use programs::read_full;
+use std::fs::File;
 
 // Twice as many bytes as a state takes in.
 const TWICE: usize = 2 * CAPACITY;
 
 // The fewest bytes of which one more chaining value would wait than a state has places for, if it took them all in.
 const NO_PLACE_LEFT: usize = TWICE - CHUNK_LEN + 1;
+
+// More than the file has.
+const FILE_ROOM: usize = 65536;
 
 // The number at the start of a line, and how many digits it has.
 #[derive(Clone, Copy)]
@@ -24,12 +28,12 @@ struct Number {
     digits: usize,
 }
 
-fn word(text: &[u8]) {
-    io::write_all(STDOUT_FILENO, text);
+fn word(rt: &impl Print, text: &[u8]) {
+    programs::write(rt, text);
 }
 
-fn count(n: usize) {
-    io::print_decimal(STDOUT_FILENO, n as u64);
+fn count(rt: &impl Print, n: usize) {
+    programs::write_decimal(rt, n as u64);
 }
 
 fn wide(b: u8) -> usize
@@ -116,18 +120,18 @@ fn in_two(s: &[u8]) -> HashAnswer {
     blake3::finish(blake3::fed_with(first, &s[cut..]))
 }
 
-fn refused(error: ContainerError) {
-    word(b" refused ");
-    count(wide(error.number()));
+fn refused(rt: &impl Print, error: ContainerError) {
+    word(rt, b" refused ");
+    count(rt, wide(error.number()));
 }
 
-fn answered(answer: HashAnswer) {
+fn answered(rt: &impl Print, answer: HashAnswer) {
     match answer {
-        HashAnswer::Refused(error) => refused(error),
+        HashAnswer::Refused(error) => refused(rt, error),
         HashAnswer::Digest(digest) => {
-            word(b" ");
+            word(rt, b" ");
             let text = text_of(digest);
-            word(&text);
+            word(rt, &text);
         }
     }
 }
@@ -143,36 +147,36 @@ fn has_digits(answer: HashAnswer, expected: &[u8]) -> bool {
 }
 
 // Whether an answer is a digest with the expected digits. If not, it is printed.
-fn is_right(way: &[u8], answer: HashAnswer, expected: &[u8]) -> bool {
+fn is_right(rt: &impl Print, way: &[u8], answer: HashAnswer, expected: &[u8]) -> bool {
     if has_digits(answer, expected) {
         return true;
     }
-    word(way);
-    answered(answer);
+    word(rt, way);
+    answered(rt, answer);
     false
 }
 
 // A vector: an input and the digits of its digest.
-fn run(s: &[u8], expected: &[u8]) {
-    count(s.len());
+fn run(rt: &impl Print, s: &[u8], expected: &[u8]) {
+    count(rt, s.len());
     if is_right(b" wrong, whole:", blake3::hash(s), expected)
-        && is_right(b" wrong, in parts:", in_parts(s), expected)
-        && is_right(b" wrong, in two:", in_two(s), expected)
+        && is_right(rt, b" wrong, in parts:", in_parts(s), expected)
+        && is_right(rt, b" wrong, in two:", in_two(s), expected)
     {
-        word(b" ok");
+        word(rt, b" ok");
     }
-    word(b"\n");
+    word(rt, b"\n");
 }
 
 // An input whose digest is not given.
-fn show(s: &[u8]) {
-    count(s.len());
-    answered(blake3::hash(s));
-    word(b", in parts");
-    answered(in_parts(s));
-    word(b", in two");
-    answered(in_two(s));
-    word(b"\n");
+fn show(rt: &impl Print, s: &[u8]) {
+    count(rt, s.len());
+    answered(rt, blake3::hash(s));
+    word(rt, b", in parts");
+    answered(rt, in_parts(s));
+    word(rt, b", in two");
+    answered(rt, in_two(s));
+    word(rt, b"\n");
 }
 
 // Stops at the first byte that is not a digit, or when the number is larger than any input's length.
@@ -197,14 +201,14 @@ fn is_comment(s: &[u8]) -> bool {
     s.len() == 0 || s[0] == b'#'
 }
 
-fn malformed(s: &[u8]) {
-    word(b"malformed: ");
-    word(s);
-    word(b"\n");
+fn malformed(rt: &impl Print, s: &[u8]) {
+    word(rt, b"malformed: ");
+    word(rt, s);
+    word(rt, b"\n");
 }
 
 // A line of the file. Its input is the first bytes of `input`.
-fn line(s: &[u8], input: &[u8]) {
+fn line(rt: &impl Print, s: &[u8], input: &[u8]) {
     if is_comment(s) {
         return;
     }
@@ -212,19 +216,19 @@ fn line(s: &[u8], input: &[u8]) {
     let length = n.value;
     let digits = n.digits;
     if s.len() <= digits {
-        malformed(s);
+        malformed(rt, s);
         return;
     }
     if input.len() < length {
-        malformed(s);
+        malformed(rt, s);
         return;
     }
     if digits == 0 || s[digits] != b' ' {
-        malformed(s);
+        malformed(rt, s);
         return;
     }
     let from = digits + 1;
-    run(&input[..length], &s[from..]);
+    run(rt, &input[..length], &s[from..]);
 }
 
 // Where the line that starts at `at` ends.
@@ -242,11 +246,11 @@ fn line_end(file: &[u8], at: usize) -> usize
     end
 }
 
-fn lines(file: &[u8], input: &[u8]) {
+fn lines(rt: &impl Print, file: &[u8], input: &[u8]) {
     let mut at = 0;
     while at < file.len() {
         let end = line_end(file, at);
-        line(&file[at..end], input);
+        line(rt, &file[at..end], input);
         if end == file.len() {
             return;
         }
@@ -255,27 +259,33 @@ fn lines(file: &[u8], input: &[u8]) {
 }
 
 // The hash limit, one byte over it, and two inputs beyond a state's capacity.
-fn edges(input: &[u8])
+fn edges(rt: &impl Print, input: &[u8])
     requires { 2 * capacity ≤ length input.now }
 {
-    show(&input[..HASH_LIMIT]);
-    show(&input[..HASH_LIMIT + 1]);
-    show(&input[..NO_PLACE_LEFT]);
-    show(input);
+    show(rt, &input[..HASH_LIMIT]);
+    show(rt, &input[..HASH_LIMIT + 1]);
+    show(rt, &input[..NO_PLACE_LEFT]);
+    show(rt, input);
 }
 
-fn main() {
-    let path = b"blake3-vectors.txt";
-    let fd = os::open_read(path);
-    if fd < 0 {
-        os::fail(path);
-        return;
+fn file_room() -> [u8; FILE_ROOM] {
+    [0; FILE_ROOM]
+}
+
+fn main(rt: HostRuntime) {
+    let path = "blake3-vectors.txt";
+    match File::open(&rt, path) {
+        Err(error) => {
+            let _ = eprintln!(rt; "{path}: {error}");
+        }
+        Ok(vectors) => {
+            let mut from = vectors;
+            let mut file = file_room();
+            let n = read_full(&mut from, &mut file);
+            let mut input = room();
+            fill(&mut input);
+            lines(&rt, &file[..n], &input);
+            edges(&rt, &input);
+        }
     }
-    let mut file = io::large_buffer();
-    let n = io::read_full(fd, &mut file);
-    libc::close(fd);
-    let mut input = room();
-    fill(&mut input);
-    lines(&file[..n], &input);
-    edges(&input);
 }

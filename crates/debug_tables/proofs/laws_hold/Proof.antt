@@ -1,7 +1,0 @@
--- `debug_tables::laws_hold` meets its contract.
-use Rattle.debug_tables.proofs.Few.{laws}
-use Rattle.debug_tables.proofs.laws_hold.Statement.{statement}
-use Rattle.debug_tables.proofs.laws_hold.Tie as tie
-
-pub laws-hold-spec : {M : Type 1} → statement M
-laws-hold-spec = tie.close (tie.spec (λ c. laws))

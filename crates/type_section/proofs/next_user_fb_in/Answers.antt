@@ -1,0 +1,17 @@
+-- `type_section::next_user_fb_in` meets its contract: what stands at the place is the table's next entry.
+use mathlib.Core.Path.{ap}
+use Rattle.reading.proofs.Given.{reads_at}
+use Rattle.reading.proofs.Left.{stays-local}
+use Rattle.base.proofs.FileLookups.{step-ends, step-read}
+use Rattle.type_entries.specs.Answers.{user_fb_step}
+use Rattle.type_entries.proofs.Entries.{local-user-fb}
+use Rattle.type_section.proofs.next_user_fb_in.Goals as goal
+
+pub returns-then-count-eq0 : goal.returns-then-count-eq0
+returns-then-count-eq0 c = step-ends _ _ _ c.if-count-eq0.true
+
+pub returns-in-Refused : goal.returns-in-Refused
+returns-in-Refused c = step-read _ _ _ c.if-count-eq0.false (ap user_fb_step c.in-Refused.is) (reads_at (stays-local _ local-user-fb) _ c.read_user_fb.ensures)
+
+pub returns-in-Entry : goal.returns-in-Entry
+returns-in-Entry c = step-read _ _ _ c.if-count-eq0.false (ap user_fb_step c.in-Entry.is) (reads_at (stays-local _ local-user-fb) _ c.read_user_fb.ensures)
