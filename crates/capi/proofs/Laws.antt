@@ -6,7 +6,6 @@ use mathlib.Core.Option.{Option}
 use native.Mathlib.Omega.{arith}
 use lib.ListN.{length, take}
 use lib.Seq.{take-append-le, take_all}
-use Rattle.reading.specs.Answer.{refused, found}
 use Rattle.format.specs.Record.{Container, read_from}
 use Rattle.base.specs.declared.error.ContainerError.{ContainerError}
 use Rattle.blake3.specs.Blake3.{blake3}
@@ -21,7 +20,7 @@ use Rattle.record_numbers.specs.ToNumbers.{in_force_numbers, lookup_numbers, rec
 use Rattle.record_numbers.specs.FromNumbers.{number_count}
 use Rattle.record_numbers.specs.Laws.{kept_in_numbers, Fits}
 use Rattle.record_numbers.proofs.Laws as numbers
-use Rattle.capi.specs.Asked.{with_numbers, looked_up_in, loaded}
+use Rattle.capi.specs.Asked.{with_numbers, looked_up_in}
 use Rattle.capi.specs.Laws.{Laws, AsAsked}
 use Rattle.capi.proofs.Lookups.{ask-found, load_found}
 

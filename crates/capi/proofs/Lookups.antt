@@ -1,8 +1,7 @@
 -- What is answered for a file that is refused, for one that is read, and for numbers that stand for a record.
 use Prim.Native.Nat.{ℕ}
-use mathlib.Core.Path.{◌≡◌, refl}
+use mathlib.Core.Path.{◌≡◌}
 use mathlib.Core.List.{List, [], ◌∷◌}
-use mathlib.Core.Option.{Option, none, some}
 use Rattle.reading.specs.Answer.{refused, found}
 use Rattle.format.specs.Record.{read_from}
 use Rattle.base.specs.Error.{fault_of}

@@ -1,6 +1,8 @@
 // The reader for C and Rust. The library keeps nothing between calls; an answer is written into the buffer that the caller lends.
 // An answer is numbers: a refusal's number and values, or 0 and the answer's fields. The result is their count; a buffer with room for fewer
 // than 64 numbers gets none. A hash is written into a buffer of its own.
+#![tactic(auto)]
+
 mod buffers;
 mod loading;
 

@@ -1,0 +1,6 @@
+-- `capi::container_content_hash` meets its contract.
+use Rattle.capi.proofs.Filled.{hashed-as}
+use Rattle.capi.proofs.container_content_hash.Goals as goal
+
+pub returns : goal.returns
+returns c = hashed-as c.content_hash.ensures c.put_hash.ensures

@@ -1,7 +1,0 @@
--- `capi::laws_hold` meets its contract.
-use Rattle.capi.proofs.Laws.{laws}
-use Rattle.capi.proofs.laws_hold.Statement.{statement}
-use Rattle.capi.proofs.laws_hold.Tie as tie
-
-pub laws-hold-spec : {M : Type 1} → statement M
-laws-hold-spec = tie.close (tie.spec (λ c. laws))
