@@ -1,7 +1,7 @@
 /* Nurqeshil: a verified reader for IronPLC bytecode containers, as a static library.
  *
- *     rt staticlib capi           builds target/staticlib/libcapi.a
- *     cc -I include main.c target/staticlib/libcapi.a
+ *     (cd crates/capi && rt lib)  builds crates/capi/out/libcapi.a
+ *     cc -I include main.c crates/capi/out/libcapi.a
  *
  * The library keeps nothing between calls. No function has a precondition on the bytes: every file gets an answer or a refusal.
  * Pointers must not be null, even where a length or room is 0. A lent buffer (`out`, `digest`) must not overlap anything that is

@@ -1,4 +1,6 @@
 // The numbers of each kind of answer: a refusal's number and values, or 0 and the answer's fields.
+#![tactic(auto)]
+
 ghost use Rattle.std.specs.Prelude.{◌≡◌, [], ◌∷◌, ◌++◌};
 ghost use Rattle.reading.specs.Numbers.{le, bytes_le};
 ghost use Rattle.base.specs.Error.{fault_of};

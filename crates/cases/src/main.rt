@@ -1,6 +1,8 @@
 // Document 01's unstarred cases, every row of its table of refusals with a small file that gives it, lookups over records that were not
 // read from that file, the readings of unclear sentences (docs/DECISIONS.md, 1 to 21), and the cases of document 02's slips 1 and 2. They come on
 // standard input, one step to a line, as its first lines say; each prints its name and then the answer.
+#![tactic(auto)]
+
 use case_files::{START, is_step, line_at, place_among, print_name, step, text};
 use programs::{file_room, first, read_input, write};
 

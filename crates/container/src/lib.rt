@@ -1,4 +1,6 @@
 // Reading a container from a file.
+#![tactic(auto)]
+
 ghost use Rattle.std.specs.Prelude.{◌≡◌, ◌≤◌, length};
 ghost use Rattle.format.specs.Parts.{limit, cut};
 ghost use Rattle.format.specs.Load.{debug_found};

@@ -7,7 +7,7 @@ use lib.ListN.{length}
 use Rattle.reading.specs.Fault.{Fault}
 use Rattle.reading.specs.Reader.{Reader}
 use Rattle.reading.specs.Answer.{Got, refused, found, ◌>>=◌, indexed, item_of}
-use Rattle.reading.specs.Places.{entry, Holds}
+use Rattle.reading.specs.Places.{Holds}
 use Rattle.reading.specs.declared.Table.{Table}
 use Rattle.format.specs.Faults.{no_entry}
 use Rattle.format.specs.Parts.{Place, cut, Inside, Keep, by_place}

@@ -1,5 +1,7 @@
 // The debug section of a file: where its tables in force stand, and lookups in them. A lookup reads the section again and trusts no count: 10 over
 // the file's limit, 15 where the section does not lie in the file behind the header or does not read, then the lookup's own refusal.
+#![tactic(auto)]
+
 ghost use Rattle.std.specs.Prelude.{◌≡◌};
 ghost use Rattle.requests.specs.BadPlace.{bad_place_at};
 ghost use Rattle.base.specs.Section.{place_in, part_from, PartWithin};

@@ -1,5 +1,7 @@
 // Walks over the tables in force of the debug section, entry by entry. A walk starts at a table that `debug_section::tables` answers; a step is total over
 // any file, place and table: 10 over the file's limit, 15 where the section does not lie in the file behind the header or the entry does not read.
+#![tactic(auto)]
+
 ghost use Rattle.std.specs.Prelude.{◌≡◌};
 ghost use Rattle.format.specs.Parts.{by_place};
 ghost use Rattle.format.specs.Debug.{line, name, variable, function_name, string_layout, source_file};

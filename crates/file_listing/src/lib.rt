@@ -1,4 +1,6 @@
 // The whole listing of a file, in a buffer that the caller lends.
+#![tactic(auto)]
+
 ghost use Rattle.std.specs.Prelude.{◌≡◌, length, replicate};
 ghost use Rattle.lent.specs.Output.{Wrote, PutsRestFree};
 ghost use Rattle.record.specs.Answers.{container_in};

@@ -1,7 +1,7 @@
 -- The masked header and the four sections make the hashed string, and its digest is the content hash. It is never refused: what is hashed of a file
 -- within the limit is within the hash's limit.
 use mathlib.Core.Path.{◌≡◌, refl, sym, ap, ◌∙◌}
-use mathlib.Core.Bool.{Bool, true, false, not, ◌&&◌, ◌||◌, cond}
+use mathlib.Core.Bool.{Bool, true, false, ◌&&◌, ◌||◌, cond}
 use mathlib.Core.List.{List, [], ◌++◌}
 use Prim.Native.Nat.{ℕ, ◌+◌, ◌≤◌, ◌<◌}
 use native.Mathlib.Omega.{arith}
@@ -37,14 +37,6 @@ hashed-is f p = at (eqb p.size 0) (is_inside f p) (leb (p.offset + p.size) (leng
         absurd (let z : ◌≡◌ {A = ℕ} 0 1 = ap (λ (y : Bool). cond y 0 1) b in omega arith)
 
 -- the tests of a section
-
-pub when-not : {a : Bool} (b : Bool) → b ≡ a → not b ≡ true → a ≡ false
-when-not true e h = sym e ∙ sym h
-when-not false e h = sym e
-
-pub when-so : {a : Bool} (b : Bool) → b ≡ a → not b ≡ false → a ≡ true
-when-so true e h = sym e
-when-so false e h = sym e ∙ sym h
 
 pub hashable-empty : (f : List ℕ) (p : Place) → p.size ≡ 0 → true ≡ is_hashable f p
 unfolding is_hashable

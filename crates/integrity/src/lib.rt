@@ -1,4 +1,6 @@
 // The content hash over the masked header and four sections, and whether a debug hash fits its section.
+#![tactic(auto)]
+
 ghost use Rattle.std.specs.Prelude.{◌≡◌, ◌≤◌, length, take};
 ghost use Rattle.base.specs.Digest.{digest_bytes};
 ghost use Rattle.base.specs.Section.{place_in, bytes_of, checked_from};

@@ -1,5 +1,7 @@
 // One step of a walk over a table of a file, which writes the entry's line at the place `at` of a buffer that the caller lends: a function for each
 // kind of entry, and one for any kind.
+#![tactic(auto)]
+
 ghost use Rattle.std.specs.Prelude.{◌≡◌};
 ghost use Rattle.base.specs.Section.{place_in};
 ghost use Rattle.line_steps.specs.Steps.{next_line_at};

@@ -1,5 +1,7 @@
 // Lists the container that comes on standard input, as document 01 says: a line for the container, one for each entry of its tables, and `end`; or one
 // line with its refusal. The text comes from a proved function; the program reads and prints.
+#![tactic(auto)]
+
 use file_listing::{page, put_on_page};
 use programs::{file_room, first, read_input, write};
 

@@ -1,5 +1,7 @@
 // The lister's lines other than entries of tables: the container's, the debug section's, the end's, a refusal's. The whole listing of a file is a
 // definition, in `specs/Listing.antt`.
+#![tactic(auto)]
+
 ghost use Rattle.std.proofs.Math.Option.{none, some};
 ghost use Rattle.base.specs.Error.{fault_of};
 ghost use Rattle.lent.specs.Output.{Puts};

@@ -9,7 +9,7 @@ use native.Mathlib.Omega.{arith}
 use lib.Dec.{ltb}
 use lib.ListN.{length, length-drop, length-append}
 use Rattle.reading.specs.Fault.{Fault}
-use Rattle.reading.specs.Reader.{got, Reader, ◌>>=◌, ◌>>◌, give, check, left, bytes, number, many, counted, counted_or_none}
+use Rattle.reading.specs.Reader.{got, Reader, ◌>>=◌, ◌>>◌, give, check, bytes, number, many, counted, counted_or_none}
 use Rattle.reading.proofs.Le.{Bytes, bytes_drop}
 use Rattle.reading.proofs.Reading.{never, both, bytes-length, number_fits}
 use Rattle.reading.proofs.Width.{Width, fixed-width, fixed-bytes, width-number}

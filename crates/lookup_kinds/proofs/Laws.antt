@@ -1,20 +1,16 @@
 -- What a lookup reads of a record.
 use Prim.Native.Nat.{ℕ}
-use mathlib.Core.Bool.{true, false}
 use mathlib.Core.List.{List, []}
 use mathlib.Core.Option.{Option, none, some}
 use mathlib.Core.Path.{◌≡◌, refl, ap}
 use native.Mathlib.Omega.{arith}
 use lib.ListN.{get_or}
-use Rattle.reading.specs.Answer.{Got}
 use Rattle.format.specs.Parts.{Place, by_place}
 use Rattle.format.specs.Tasks.{task_table}
-use Rattle.format.specs.Types.{TypeTables}
 use Rattle.format.specs.Constants.{constants}
 use Rattle.format.specs.Code.{code_of}
-use Rattle.format.specs.Debug.{Tables}
 use Rattle.format.specs.Record.{TypeCounts, DebugCounts, Container}
-use Rattle.format.specs.Lookups.{RunAnswers, DebugAnswers, read_at, types_by, debug_by, debug_in, run_answers_of, debug_answers_of, run_answers, debug_answers}
+use Rattle.format.specs.Lookups.{read_at, types_by, debug_by, debug_in, run_answers_of, debug_answers_of, run_answers, debug_answers}
 use Rattle.lookup_kinds.specs.Kinds.{lookups_of, looked_up}
 use Rattle.lookup_kinds.specs.Laws.{present, SameForLookups, Laws}
 

@@ -1,4 +1,6 @@
 // Each lookup over a file and a record, by its kind, as numbers.
+#![tactic(auto)]
+
 pub mod kinds;
 
 ghost use Rattle.std.specs.Prelude.{◌<◌, ◌≤◌, ◌≡◌};

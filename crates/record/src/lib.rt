@@ -1,5 +1,7 @@
 // The record that reading a file yields, and the lookups over it. A record is not trusted: anyone can construct one, and each lookup reads its
 // section again, at the record's place, size and function count.
+#![tactic(auto)]
+
 ghost use Rattle.std.specs.Prelude.{◌≡◌, length};
 ghost use Rattle.format.specs.Lookups.{run_answers, debug_answers};
 ghost use Rattle.base.specs.Error.{fault_of};

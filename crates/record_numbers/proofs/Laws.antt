@@ -1,7 +1,7 @@
 -- The laws of numbers and records.
 use Prim.Native.Nat.{ℕ, zero, suc, ◌+◌, ◌-◌, ◌<◌, ◌≤◌}
 use mathlib.Core.Bool.{Bool, true, false, cond}
-use mathlib.Core.List.{List, [], ◌∷◌, ◌++◌}
+use mathlib.Core.List.{List, ◌∷◌, ◌++◌}
 use mathlib.Core.Option.{Option, none, some}
 use mathlib.Core.Path.{◌≡◌, refl, sym, ap, ◌∙◌}
 use native.Mathlib.Omega.{arith}
@@ -9,8 +9,8 @@ use lib.ListN.{length, get_or, take, drop, replicate}
 use lib.Seq.{take-append-le, get_or-take, get_or-drop, take_all}
 use Rattle.format.specs.Record.{TypeCounts, DebugCounts, Container}
 use Rattle.record_numbers.specs.ToNumbers.{lookup_numbers, record_numbers}
-use Rattle.record_numbers.specs.FromNumbers.{number_count, most_count, most_with, most_numbers, most_of_fields, fits, record_by, record_of_first, record_of_numbers, number_at, types_flag_at, constants_place, debug_flag_at}
-use Rattle.record_numbers.specs.Laws.{kept_in_numbers, Fits, Laws}
+use Rattle.record_numbers.specs.FromNumbers.{number_count, most_count, most_with, most_numbers, most_of_fields, fits, record_of_first, record_of_numbers, number_at, types_flag_at, constants_place, debug_flag_at}
+use Rattle.record_numbers.specs.Laws.{kept_in_numbers, Laws}
 use Rattle.record_numbers.proofs.Mill.{mill-numbers}
 use Rattle.record_numbers.proofs.Fitting.{too_short, too-large-at, no_record, fields_fit}
 

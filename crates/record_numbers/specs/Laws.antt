@@ -1,5 +1,5 @@
 -- The laws of numbers and records: the numbers of a record give it back, and which numbers give none.
-use Rattle.std.specs.Prelude.{ℕ, ◌+◌, ◌<◌, ◌≤◌, List, [], ◌∷◌, ◌++◌, ◌≡◌, true, length, get_or, take, replicate}
+use Rattle.std.specs.Prelude.{ℕ, ◌+◌, ◌<◌, ◌≤◌, List, [], ◌∷◌, ◌++◌, ◌≡◌, true, length, get_or, replicate}
 use Rattle.std.proofs.Math.Option.{none, some}
 use Rattle.format.specs.Parts.{hash_size}
 use Rattle.reading.specs.Answer.{found, ◌>>=◌}

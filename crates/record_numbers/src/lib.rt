@@ -1,4 +1,6 @@
 // A record as numbers, and such numbers back to a record.
+#![tactic(auto)]
+
 pub mod back;
 
 ghost use Rattle.std.specs.Prelude.{◌≡◌, [], ◌∷◌};

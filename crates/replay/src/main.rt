@@ -1,5 +1,7 @@
 // Lists 400 files, whose listings by the Rust's release build are the expected output. Standard input has the files one after the other, each behind
 // its length of two bytes, low byte first; a line with a full stop closes each listing.
+#![tactic(auto)]
+
 ghost use Rattle.std.specs.Prelude.{◌<◌};
 
 use file_listing::{page, put_on_page};

@@ -1,5 +1,7 @@
 // The text of whole tables of a file, in a buffer that the caller lends. Each function writes the lines of a table's entries, one behind the other,
 // at the place `at`, and returns the place behind them, or that they do not fit; it writes none if the section is absent or refused.
+#![tactic(auto)]
+
 ghost use Rattle.std.specs.Prelude.{◌≡◌};
 ghost use Rattle.base.specs.Section.{place_in, start_from};
 ghost use Rattle.lent.specs.Output.{PutsRestFree};

@@ -1,6 +1,8 @@
 // Runs BLAKE3's published vectors, the lines of data/blake3-vectors.txt: an input's length and its digest in hexadecimal.
 // Byte i of an input is i mod 251. Each input is hashed whole, in parts of uneven lengths, and in two parts through a lent
 // state. Inputs at the hash limit, one byte over it, and beyond a state's capacity follow.
+#![tactic(auto)]
+
 ghost use Rattle.std.specs.Prelude.{◌*◌, ◌<◌, ◌≤◌, length};
 ghost use Rattle.hasher.specs.State.{capacity};
 
@@ -159,7 +161,7 @@ fn is_right(rt: &impl Print, way: &[u8], answer: HashAnswer, expected: &[u8]) ->
 // A vector: an input and the digits of its digest.
 fn run(rt: &impl Print, s: &[u8], expected: &[u8]) {
     count(rt, s.len());
-    if is_right(b" wrong, whole:", blake3::hash(s), expected)
+    if is_right(rt, b" wrong, whole:", blake3::hash(s), expected)
         && is_right(rt, b" wrong, in parts:", in_parts(s), expected)
         && is_right(rt, b" wrong, in two:", in_two(s), expected)
     {

@@ -1,0 +1,39 @@
+-- `debug_walks::next_enumeration` meets its contract: 10, then 15, then the step in the section.
+use mathlib.Core.Path.{sym, ap, subst, ◌∙◌}
+use native.Mathlib.Omega.{arith}
+use Rattle.base.specs.Section.{place_in, part_from, PartWithin}
+use Rattle.debug_entries.specs.Answers.{enumeration_walk}
+use Rattle.debug_walks.proofs.Steps.{step-refused, entry_found}
+use Rattle.debug_walks.proofs.next_enumeration.Goals as goal
+
+pub overflow_add-end : goal.overflow_add-end
+overflow_add-end c = omega (arith, subst (PartWithin _) c.in-Part.is c.debug_part.ensures.1)
+
+pub slice_bounds-next_enumeration_in-end : goal.slice_bounds-next_enumeration_in-end
+slice_bounds-next_enumeration_in-end c = omega (arith, subst (PartWithin _) c.in-Part.is c.debug_part.ensures.1)
+
+pub next_enumeration_in-requires : goal.next_enumeration_in-requires
+next_enumeration_in-requires c = omega (arith, subst (PartWithin _) c.in-Part.is c.debug_part.ensures.1)
+
+pub returns-in-Refused : goal.returns-in-Refused
+returns-in-Refused c =
+    let a = c.args in
+    step-refused a.file.now (place_in a.section) _ a.t (ap part_from (sym c.in-Refused.is) ∙ c.debug_part.ensures.0)
+
+pub returns-in-End : goal.returns-in-End
+returns-in-End c =
+    let a = c.args in
+    let k = ap part_from (sym c.in-Part.is) ∙ c.debug_part.ensures.0 in
+    entry_found a.file.now (place_in a.section) a.t k (ap (enumeration_walk _) (sym c.in-End.is) ∙ c.next_enumeration_in.ensures)
+
+pub returns-in-Fault : goal.returns-in-Fault
+returns-in-Fault c =
+    let a = c.args in
+    let k = ap part_from (sym c.in-Part.is) ∙ c.debug_part.ensures.0 in
+    entry_found a.file.now (place_in a.section) a.t k (ap (enumeration_walk _) (sym c.in-Fault.is) ∙ c.next_enumeration_in.ensures)
+
+pub returns-in-Entry : goal.returns-in-Entry
+returns-in-Entry c =
+    let a = c.args in
+    let k = ap part_from (sym c.in-Part.is) ∙ c.debug_part.ensures.0 in
+    entry_found a.file.now (place_in a.section) a.t k (ap (enumeration_walk _) (sym c.in-Entry.is) ∙ c.next_enumeration_in.ensures)

@@ -1,0 +1,15 @@
+-- `record::Container::arrays` meets its contract: 10 or 16 where the record has no types, else what the type section answers.
+use Rattle.reading.specs.Answer.{found}
+use Rattle.type_entries.specs.Starts.{arrays_start}
+use Rattle.record.proofs.Lookups.{types-absent, types-present}
+use Rattle.record.proofs.Container.arrays.Goals as goal
+
+pub returns-in-None : goal.returns-in-None
+returns-in-None c =
+    let a = c.args in
+    types-absent a.file.now a.self (λ t. found (arrays_start t)) c.in-None.is c.absent.ensures
+
+pub returns-in-Some : goal.returns-in-Some
+returns-in-Some c =
+    let a = c.args in
+    types-present a.file.now a.self (λ t. found (arrays_start t)) c.in-Some.is c.arrays.ensures

@@ -1,0 +1,12 @@
+-- `table_lines::put_fb_entries` meets its contract: the loop keeps `Left`, whose lines are those of an FB type and its fields.
+use Prim.Native.Nat.{ℕ}
+use Rattle.base.specs.Section.{place_in}
+use Rattle.table_lines.specs.Walks.{next_fb_type_text, fb_entries_text}
+use Rattle.table_lines.proofs.Walking.{Left}
+use Rattle.table_lines.proofs.put_fb_entries.Given as goal
+
+abbrev pub invariant-loop-rest : goal.invariant-loop-rest
+invariant-loop-rest l = (i : ℕ) × Left (next_fb_type_text l.file (place_in l.section)) l.initial.out l.at (fb_entries_text l.file (place_in l.section) l.initial.rest) l.out i l.next l.rest
+
+abbrev pub decreases-loop-rest : goal.decreases-loop-rest
+decreases-loop-rest l = l.rest.count
