@@ -58,7 +58,7 @@ pub fn update(state: &mut Hasher, bytes: &[u8])
     *state = (*state).update(bytes);
 }
 
-// A state fed with one more part. Its state is passed by value, so that callers need no proof by hand.
+// A state fed with one more part, by value.
 pub fn fed_with(state: Hasher, bytes: &[u8]) -> Hasher
     ensures { result ≡ fed state bytes.now }
 {
