@@ -1,4 +1,2 @@
-pub mod Values
-pub mod Words
-pub mod Signs
 pub mod Kept
+pub mod Words

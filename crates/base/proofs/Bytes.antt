@@ -1,21 +1,21 @@
 -- The laws of a number's bytes, low byte first, and of the bytes of words.
 use Prim.Native.Nat.{ℕ, zero, suc, ◌+◌, ◌*◌, ◌/◌, ◌%◌, ◌^◌, ◌≤◌, ◌<◌}
 use native.Mathlib.Nat.{add_assoc, pow-succ'}
-use native.Mathlib.Numerals.{add-one}
 use native.Mathlib.Omega.{arith}
 use mathlib.Core.Path.{◌≡◌, refl, sym, ap, ◌∙◌}
 use mathlib.Core.Bool.{Bool, true, false, ◌&&◌, and_assoc}
 use mathlib.Core.List.{List, [], ◌∷◌, ◌++◌}
 use lib.Dec.{eqb}
-use lib.ListN.{length, take, drop, get_or, set, drop_of_length-le, length-set}
-use lib.Seq.{take-add, drop-drop, drop-cons, take-suc, take-suc-set, take_all}
+use lib.ListN.{length, take, drop, get_or, length-drop}
+use lib.Seq.{take-add, drop-drop, take_all, length-take-le}
 use borrow.Author.Tests.{eq-eqb, ne_eqb, eqb-true, eqb-false}
+use borrow.Rule.Slice.PartMut.{put_mid, same_len_mid}
+use Rattle.std.proofs.lemmas.Slice.{take-put_mid}
 use Rattle.reading.specs.Numbers.{le, le_at}
 use Rattle.reading.proofs.Le.{Bytes, bytes-part}
 use Rattle.reading.proofs.Parts.{length_part}
 use Rattle.format.specs.Parts.{part, same}
 use Rattle.reading.specs.Numbers.{bytes_le, word_bytes}
-use Rattle.base.specs.declared.digest.Digest.{Digest}
 
 -- a number made of bytes, and taken apart again
 bytes-of-le : (b : List ℕ) → Bytes b → bytes_le (length b) (le b) ≡ b
@@ -59,15 +59,6 @@ module _ (s : List ℕ) (h : Bytes s) where
   words-at at [] l p = refl
   words-at at (w ∷ ws) l p = one_more at w ws (omega arith) p.0 (behind at 4 ws (omega arith) p.1)
 
--- the elements of a list from the index i on
-abbrev pub elements : List ℕ → ℕ → ℕ → List ℕ
-elements l i zero = []
-elements l i (suc n) = get_or l i 0 ∷ elements l (suc i) n
-
-pub elements-all : (n i : ℕ) (l : List ℕ) → i + n ≡ length l → elements l i n ≡ drop i l
-elements-all zero i l e = let h : length l ≤ i = omega arith in sym (drop_of_length-le l h)
-elements-all (suc n) i l e = rw (elements-all n (suc i) l (omega arith), ← drop-cons l i 0 (omega arith))
-
 -- two numbers are equal exactly if their low bytes are, and what is above them
 digits : (v u : ℕ) → eqb v u ≡ (eqb (v % 256) (u % 256) && eqb (v / 256) (u / 256))
 digits v u = go (eqb (v % 256) (u % 256)) (eqb (v / 256) (u / 256)) refl refl
@@ -88,41 +79,19 @@ same_bytes (suc w) v u s t p q =
     let e : 256 ^ suc w ≡ 256 * 256 ^ w = rw pow-succ' in
     rw (same_bytes w (v / 256) (u / 256) s t (omega arith) (omega arith), digits v u, and_assoc)
 
--- the words of a digest
-abbrev pub words : Digest → List ℕ
-words d = d.0 ∷ d.1 ∷ d.2 ∷ d.3 ∷ d.4 ∷ d.5 ∷ d.6 ∷ d.7 ∷ []
-
--- each is a word: it fits 32 bits
-abbrev pub AllFit : List ℕ → Type 0
-AllFit [] = Unit {0}
-AllFit (w ∷ ws) = (w < 2 ^ 32) × AllFit ws
-
 -- words are the same exactly if their bytes are
-pub same-words : (a b : List ℕ) → AllFit a → AllFit b → same (word_bytes a) (word_bytes b) ≡ same a b
+pub same-words : (a b : List ℕ) → ((i : ℕ) → get_or a i 0 < 2 ^ 32) → ((i : ℕ) → get_or b i 0 < 2 ^ 32) → same (word_bytes a) (word_bytes b) ≡ same a b
 unfolding word_bytes bytes_le
 same-words [] [] p q = refl
 same-words [] (w ∷ b) p q = refl
 same-words (v ∷ a) [] p q = refl
 same-words (v ∷ a) (w ∷ b) p q =
-    same_bytes 4 v w (word_bytes a) (word_bytes b) p.0 q.0 ∙ rw (same-words a b p.1 q.1)
+    same_bytes 4 v w (word_bytes a) (word_bytes b) (p 0) (q 0) ∙ rw (same-words a b (λ i. p (suc i)) (λ i. q (suc i)))
 
 words-length : (ws : List ℕ) → length (word_bytes ws) ≡ 4 * length ws
 unfolding word_bytes bytes_le
 words-length [] = refl
 words-length (w ∷ ws) = let ih = words-length ws in omega arith
-
--- the byte at i is a byte of the word at i / 4
-byte_of : (ws : List ℕ) (i : ℕ) → i < 4 * length ws → get_or (word_bytes ws) i 0 ≡ get_or ws (i / 4) 0 / 2 ^ (8 * (i % 4)) % 256
-unfolding word_bytes bytes_le
-byte_of [] i h = absurd (omega arith)
-byte_of (w ∷ ws) zero h = omega arith
-byte_of (w ∷ ws) (suc zero) h = refl
-byte_of (w ∷ ws) (suc (suc zero)) h = omega arith
-byte_of (w ∷ ws) (suc (suc (suc zero))) h = omega arith
-byte_of (w ∷ ws) (suc (suc (suc (suc i)))) h =
-    let index : suc (suc (suc (suc i))) / 4 ≡ suc (i / 4) = omega arith in
-    let place : suc (suc (suc (suc i))) % 4 ≡ i % 4 = omega arith in
-    rw (index, place) (byte_of ws i (omega arith))
 
 -- the bytes of words written one by one into `b`: the first i are there
 pub record Written (ws b : List ℕ) (i : ℕ) : Type 0 where
@@ -130,18 +99,43 @@ pub record Written (ws b : List ℕ) (i : ℕ) : Type 0 where
   pub room : length b ≡ 4 * length ws
   pub front : take i b ≡ take i (word_bytes ws)
 
-pub written-more : (ws b : List ℕ) (i : ℕ) → i < 4 * length ws → Written ws b i → Written ws (set b i (get_or ws (i / 4) 0 / 2 ^ (8 * (i % 4)) % 256)) (i + 1)
-written-more ws b i h w =
-    let n = words-length ws in
-    let e = w.front in
+pub written_none : (ws : List ℕ) {b : List ℕ} → length b ≡ 4 * length ws → Written ws b 0
+written_none ws e = record { most = omega arith; room = e; front = refl }
+
+-- the bytes of one word more
+next_word : (ws : List ℕ) (i : ℕ) → i < length ws → take (4 * suc i) (word_bytes ws) ≡ take (4 * i) (word_bytes ws) ++ bytes_le 4 (get_or ws i 0)
+unfolding word_bytes bytes_le
+next_word [] i h = absurd (omega arith)
+next_word (w ∷ ws) zero h = refl
+next_word (w ∷ ws) (suc i) h =
+    let a : 4 * suc (suc i) ≡ suc (suc (suc (suc (4 * suc i)))) = omega arith in
+    let b : 4 * suc i ≡ suc (suc (suc (suc (4 * i)))) = omega arith in
+    ap (λ (n : ℕ). take n (word_bytes (w ∷ ws))) a
+    ∙ ap (λ (l : List ℕ). bytes_le 4 w ++ l) (next_word ws i (omega arith))
+    ∙ sym (ap (λ (n : ℕ). take n (word_bytes (w ∷ ws)) ++ bytes_le 4 (get_or ws i 0)) b)
+
+pub written_word : (ws b : List ℕ) (i k : ℕ) {x : List ℕ} → i < length ws → k ≡ 4 → x ≡ bytes_le 4 (get_or ws i 0) → Written ws b (4 * i)
+    → Written ws (put_mid (4 * i) k b x) (4 * (i + 1))
+unfolding bytes_le
+written_word ws b i k {x} h e p w =
     let r = w.room in
-    let x : i < length (word_bytes ws) = omega arith in
-    let y : i < length b = omega arith in
+    let l : length x ≡ 4 = ap length p in
+    let m : length (take k (drop (4 * i) b)) ≡ k = length-take-le k (drop (4 * i) b) (omega (arith, length-drop (4 * i) b)) in
+    let n : 4 * (i + 1) ≡ 4 * suc i = omega arith in
     record {
       most = omega arith;
-      room = simp length-set r;
-      front = rw (← byte_of ws i h, add-one, take-suc-set b i (get_or (word_bytes ws) i 0), take-suc (word_bytes ws) i 0, e);
+      room = same_len_mid (4 * i) k b x (l ∙ sym (m ∙ e)) ∙ r;
+      front = take-put_mid (4 * i) k b x (4 * (i + 1)) (omega arith) (omega arith)
+          ∙ rw (w.front, p) (sym (ap (λ (m : ℕ). take m (word_bytes ws)) n ∙ next_word ws i h));
     }
+
+-- std's bytes of a word
+pub word_in_bytes : (w : ℕ) → w % 256 ∷ w / 256 % 256 ∷ w / 65536 % 256 ∷ w / 16777216 % 256 ∷ [] ≡ bytes_le 4 w
+unfolding bytes_le
+word_in_bytes w =
+    let two : w / 256 / 256 ≡ w / 65536 = omega arith in
+    let three : w / 256 / 256 / 256 ≡ w / 16777216 = omega arith in
+    rw (three, two)
 
 pub written_all : (ws b : List ℕ) (i : ℕ) → 4 * length ws ≤ i → Written ws b i → b ≡ word_bytes ws
 written_all ws b i h w =

@@ -21,9 +21,9 @@ use Rattle.format.specs.Parts.{limit, Place, cut, is_inside, Inside, by_place}
 use Rattle.format.specs.Integrity.{section_in}
 use Rattle.format.specs.Load.{read_in}
 use Rattle.format.specs.Lookups.{read_at}
-use Rattle.format.proofs.Answers.{never, refused-then, refused-first, found_first}
+use Rattle.format.proofs.Answers.{never, refused-then, refused-first, found_first, same-found}
 use Rattle.format.proofs.Places.{inside_is}
-use Rattle.base.specs.Section.{section_part, step_by, step_in, bytes_or}
+use Rattle.base.specs.Section.{section_part, opened, section_cut, step_by, step_in, bytes_or}
 use Rattle.base.proofs.Sections.{section-refused, section-found}
 
 -- `&f[start..end]`, where `end` is `start + size`
@@ -49,6 +49,24 @@ module _ (f : List ℕ) (p : Place) where
     lookup-found {q} h k =
         let s = section-found f p r q h in
         k ∙ ap (λ (b : List ℕ). item_of (r b) >>= go) (slice_is f q ∙ ap (cut f) s.same) ∙ ap (λ (y : Got A). y >>= go) (sym s.reads)
+
+    -- the same by the section's bytes
+    pub lookup_err : (e : Fault) → refused e ≡ section_cut f p → refused e ≡ (read_at f p r >>= go)
+    lookup_err e h = go1 (section_part f p) refl h
+      where
+        go1 : (x : Got Place) → section_part f p ≡ x → refused e ≡ (x >>= λ q. found (opened f q)) → refused e ≡ (read_at f p r >>= go)
+        go1 (refused d) i h = let z : e ≡ d = cc in lookup-refused (ap refused z ∙ sym i)
+        go1 (found q) i h = never h
+
+    pub lookup_ok : (c : Place × List ℕ) (x : Got B) → found c ≡ section_cut f p → x ≡ (item_of (r c.1) >>= go) → x ≡ (read_at f p r >>= go)
+    lookup_ok c x h k = go1 (section_part f p) refl h
+      where
+        go1 : (y : Got Place) → section_part f p ≡ y → found c ≡ (y >>= λ q. found (opened f q)) → x ≡ (read_at f p r >>= go)
+        go1 (refused d) i h = never (sym h)
+        go1 (found o) i h =
+            let z : c ≡ opened f o = same-found h in
+            let s = section-found f p r o (sym i) in
+            k ∙ ap (λ (b : List ℕ). item_of (r b) >>= go) (ap (λ (y : Place × List ℕ). y.1) z ∙ ap (cut f) s.same) ∙ ap (λ (y : Got A). y >>= go) (sym s.reads)
 
     -- what a lookup that found something knows
     pub record Answered : Type 0 where
@@ -86,6 +104,23 @@ module _ (f : List ℕ) (p : Place) where
 
     pub step-found : {q : Place} {x : Next A} → found q ≡ section_part f p → x ≡ step_of r (sliced f q) t → x ≡ step_in f p r t
     step-found {q} h k = k ∙ ap (λ (b : List ℕ). step_of r b t) (slice_is f q) ∙ ap (λ (x : Got Place). step_by f x r t) h
+
+    -- the same by the section's bytes
+    pub walk_err : (e : Fault) → refused e ≡ section_cut f p → faulty e ≡ step_in f p r t
+    walk_err e h = go (section_part f p) refl h
+      where
+        go : (x : Got Place) → section_part f p ≡ x → refused e ≡ (x >>= λ q. found (opened f q)) → faulty e ≡ step_in f p r t
+        go (refused d) i h = let z : e ≡ d = cc in step-refused (ap refused z ∙ sym i)
+        go (found q) i h = never h
+
+    pub walk_ok : (c : Place × List ℕ) (x : Next A) → found c ≡ section_cut f p → x ≡ step_of r c.1 t → x ≡ step_in f p r t
+    walk_ok c x h k = go (section_part f p) refl h
+      where
+        go : (y : Got Place) → section_part f p ≡ y → found c ≡ (y >>= λ q. found (opened f q)) → x ≡ step_in f p r t
+        go (refused d) i h = never (sym h)
+        go (found o) i h =
+            let z : c ≡ opened f o = same-found h in
+            k ∙ ap (λ (y : Place × List ℕ). step_of r y.1 t) z ∙ ap (λ (x : Got Place). step_by f x r t) (sym i)
 
 -- the bytes of an answered part
 module _ (f : List ℕ) (x : Got Place) where

@@ -5,3 +5,5 @@ pub mod Sections
 pub mod FileLookups
 pub mod Values
 pub mod FileWalks
+pub mod Entries
+pub mod Picked

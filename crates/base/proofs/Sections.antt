@@ -2,7 +2,7 @@
 use mathlib.Core.Path.{◌≡◌, refl, sym, ap}
 use mathlib.Core.Bool.{Bool, true, false}
 use mathlib.Core.List.{List}
-use Prim.Native.Nat.{ℕ}
+use Prim.Native.Nat.{ℕ, ◌+◌, ◌≤◌}
 use lib.Dec.{leb}
 use lib.ListN.{length}
 use Rattle.reading.specs.Fault.{Fault}
@@ -16,6 +16,10 @@ use Rattle.format.specs.Lookups.{read_at}
 use Rattle.format.proofs.Answers.{never, same-found}
 use Rattle.format.proofs.Places.{inside_is}
 use Rattle.base.specs.Section.{section_part}
+
+-- a place that is inside ends in the file
+pub known_inside : (f : List ℕ) (p : Place) → is_inside f p ≡ true → p.offset + p.size ≤ length f
+known_inside f p h = (inside_is f p h).within
 
 module _ (f : List ℕ) (p : Place) where
   -- what reading at the place gives, by what the section's part of the file is

@@ -2,3 +2,6 @@ pub mod Error
 pub mod Small
 pub mod Digest
 pub mod Section
+pub mod Answers
+pub mod Cut
+pub mod Picked

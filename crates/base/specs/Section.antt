@@ -1,22 +1,14 @@
 -- A section's part of the file: 10 over the limit, 4 if it is not in the file behind the header, also at size 0, otherwise its place.
-use Rattle.std.specs.Prelude.{ℕ, ◌+◌, ◌≤◌, cond, List, [], leb, length}
+use Rattle.std.specs.Prelude.{ℕ, ◌+◌, ◌≤◌, cond, List, [], leb, length, Result, IfOk}
 use Rattle.reading.specs.Reader.{Reader}
-use Rattle.reading.specs.Answer.{Got, refused, found, ◌>>◌, need}
-use Rattle.reading.specs.Places.{Way, stops_by, on_to, Next, faulty, step_of}
+use Rattle.reading.specs.Answer.{Got, refused, found, ◌>>=◌, ◌>>◌, need}
+use Rattle.reading.specs.Places.{Next, faulty, step_of}
 use Rattle.reading.specs.declared.Table.{Table}
 use Rattle.format.specs.Faults.{too_long, section_size_mismatch}
 use Rattle.format.specs.Parts.{limit, Place, cut, is_inside}
-use Rattle.base.specs.Error.{fault_of}
+use Rattle.base.specs.declared.error.ContainerError.{ContainerError}
 use Rattle.base.specs.declared.section.Part.{Part}
 use Rattle.base.specs.declared.section.Section.{Section}
-use Rattle.base.specs.declared.section.StartAnswer.{StartAnswer}
-use Rattle.base.specs.declared.section.StartAnswer.TheVariants as start
-use Rattle.base.specs.declared.section.Walk.{Walk}
-use Rattle.base.specs.declared.section.Walk.TheVariants as walk
-use Rattle.base.specs.declared.section.Checked.{Checked}
-use Rattle.base.specs.declared.section.Checked.TheVariants as checked
-use Rattle.base.specs.declared.section.PartAnswer.{PartAnswer}
-use Rattle.base.specs.declared.section.PartAnswer.TheVariants as answer
 
 -- a part of the code as a place
 abbrev pub part_in : Part → Place
@@ -26,14 +18,9 @@ part_in p = record { offset = p.offset; size = p.size }
 unfoldable pub bytes_of : List ℕ → Place → List ℕ
 bytes_of f p = cond (leb (p.offset + p.size) (length f)) (cut f p) []
 
-abbrev pub part_from : PartAnswer → Got Place
-part_from (answer.Refused e) = refused (fault_of e)
-part_from (answer.Part p) = found (part_in p)
-
 -- an answered part lies in the file. For a section's part this follows from `section_part`; it is stated for callers, who slice by it
-abbrev pub PartWithin : List ℕ → PartAnswer → Type 0
-PartWithin f (answer.Refused e) = Unit {0}
-PartWithin f (answer.Part p) = p.offset + p.size ≤ length f
+abbrev pub PartWithin : List ℕ → Result Part ContainerError → Type 0
+PartWithin f answer = IfOk answer (λ p. p.offset + p.size ≤ length f)
 
 -- a section of the code as a place
 abbrev pub place_in : Section → Place
@@ -42,6 +29,13 @@ place_in s = record { offset = s.offset; size = s.size }
 unfoldable pub section_part : List ℕ → Place → Got Place
 section_part f p = need (leb (length f) limit) too_long >> need (is_inside f p) section_size_mismatch >> found p
 
+-- the same with its bytes
+abbrev pub opened : List ℕ → Place → Place × List ℕ
+opened f p = (p, cut f p)
+
+abbrev pub section_cut : List ℕ → Place → Got (Place × List ℕ)
+section_cut f p = section_part f p >>= λ q. found (opened f q)
+
 -- one step of a walk over a table of the section at a place, over any file, place and table: 10, then 4, then the step
 abbrev pub step_by : {A : Type 0} → List ℕ → Got Place → Reader A → Table → Next A
 step_by f (refused e) r t = faulty e
@@ -49,21 +43,6 @@ step_by f (found p) r t = step_of r (cut f p) t
 
 abbrev pub step_in : {A : Type 0} → List ℕ → Place → Reader A → Table → Next A
 step_in f p r t = step_by f (section_part f p) r t
-
--- where a walk over a table starts: a refusal, or the table
-abbrev pub start_from : StartAnswer → Got Table
-start_from (start.Refused e) = refused (fault_of e)
-start_from (start.Start t) = found t
-
--- where reading goes on after what was passed over
-abbrev pub way_from : Walk → Way
-way_from (walk.Refused e) = stops_by (fault_of e)
-way_from (walk.At m) = on_to m
-
--- whether a section reads: a refusal if not
-abbrev pub checked_from : Checked → Got (Unit {0})
-checked_from (checked.Refused e) = refused (fault_of e)
-checked_from checked.Good = found tt
 
 -- the bytes of an answered part; none if the answer is a refusal
 abbrev pub bytes_or : List ℕ → Got Place → List ℕ

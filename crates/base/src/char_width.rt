@@ -1,30 +1,24 @@
 // Bytes per character of a string.
 ghost use Rattle.std.specs.Prelude.{◌≡◌};
-ghost use Rattle.base.specs.Small.{byte_width, is_wide, char_width_from, char_width_of_byte};
+ghost use Rattle.base.specs.Small.{byte_width, is_wide, WidthOf};
 
-#[derive(Clone, Copy)]
+#[derive(Clone, Copy, Debug, PartialEq, Eq)]
 pub enum CharWidth {
     // STRING: Latin-1, one byte per character.
-    Narrow,
+    Narrow = 1,
     // WSTRING: UTF-16, two bytes per code unit.
-    Wide,
+    Wide = 2,
 }
 
-// A byte as a width: the width, or the byte if it is neither 1 nor 2.
-#[derive(Clone, Copy)]
-pub enum CharWidthAnswer {
-    Invalid(u8),
-    Width(CharWidth),
-}
+// A byte that is no width.
+#[derive(Clone, Copy, Debug, PartialEq, Eq)]
+pub struct InvalidCharWidth(pub u8);
 
 impl CharWidth {
     pub fn byte_width(self) -> u8
         ensures { result ≡ byte_width self }
     {
-        match self {
-            CharWidth::Narrow => 1,
-            CharWidth::Wide => 2,
-        }
+        self as u8
     }
 
     // The same as a `usize`.
@@ -42,14 +36,18 @@ impl CharWidth {
             CharWidth::Wide => true,
         }
     }
+}
 
-    pub fn from_u8(value: u8) -> CharWidthAnswer
-        ensures { char_width_from result ≡ char_width_of_byte value }
-    {
+impl TryFrom<u8> for CharWidth {
+    type Error = InvalidCharWidth;
+
+    ghost try_from_gives = { WidthOf };
+
+    fn try_from(value: u8) -> Result<Self, InvalidCharWidth> {
         match value {
-            1 => CharWidthAnswer::Width(CharWidth::Narrow),
-            2 => CharWidthAnswer::Width(CharWidth::Wide),
-            _ => CharWidthAnswer::Invalid(value),
+            1 => Ok(CharWidth::Narrow),
+            2 => Ok(CharWidth::Wide),
+            _ => Err(InvalidCharWidth(value)),
         }
     }
 }

@@ -11,26 +11,17 @@ use reading::u32_at;
 pub const HASH_LEN: usize = 32;
 
 // All zero: no digest.
-pub const NO_HASH: Digest = Digest(0, 0, 0, 0, 0, 0, 0, 0);
+pub const NO_HASH: Digest = Digest([0; 8]);
 
-#[derive(Clone, Copy)]
-pub struct Digest(
-    pub u32,
-    pub u32,
-    pub u32,
-    pub u32,
-    pub u32,
-    pub u32,
-    pub u32,
-    pub u32,
-);
+#[derive(Clone, Copy, Debug, PartialEq, Eq)]
+pub struct Digest(pub [u32; 8]);
 
 // The digest at `at`.
 pub fn digest_at(s: &[u8], at: usize) -> Digest
     requires { at + hash_size ≤ length s.now }
     ensures { digest_bytes result ≡ part at hash_size s.now }
 {
-    Digest(
+    Digest([
         u32_at(s, at),
         u32_at(s, at + 4),
         u32_at(s, at + 8),
@@ -39,7 +30,7 @@ pub fn digest_at(s: &[u8], at: usize) -> Digest
         u32_at(s, at + 20),
         u32_at(s, at + 24),
         u32_at(s, at + 28),
-    )
+    ])
 }
 
 impl Digest {
@@ -47,7 +38,7 @@ impl Digest {
     pub fn from_words(w: [u32; 8]) -> Digest
         ensures { digest_bytes result ≡ word_bytes w }
     {
-        Digest(w[0], w[1], w[2], w[3], w[4], w[5], w[6], w[7])
+        Digest(w)
     }
 
     // Whether this is no digest, all zero.
@@ -60,26 +51,16 @@ impl Digest {
     pub fn equals(self, other: Digest) -> bool
         ensures { result ≡ same (digest_bytes self) (digest_bytes other) }
     {
-        self.0 == other.0
-            && self.1 == other.1
-            && self.2 == other.2
-            && self.3 == other.3
-            && self.4 == other.4
-            && self.5 == other.5
-            && self.6 == other.6
-            && self.7 == other.7
+        self == other
     }
 
     // Its bytes.
     pub fn bytes(self) -> [u8; HASH_LEN]
         ensures { result ≡ digest_bytes self }
     {
-        let words = [
-            self.0, self.1, self.2, self.3, self.4, self.5, self.6, self.7,
-        ];
         let mut b = [0u8; HASH_LEN];
-        for i in 0..HASH_LEN {
-            b[i] = ((words[i / 4] >> (8 * (i % 4))) % 256) as u8;
+        for (i, w) in self.0.iter().enumerate() {
+            b[4 * i..4 * i + 4].copy_from_slice(&w.to_le_bytes());
         }
         b
     }

@@ -5,7 +5,7 @@ ghost use Rattle.base.specs.Error.{fault_of, refusal_number, kept_values, values
 
 use crate::id_types::ConstantIndex;
 
-#[derive(Clone, Copy)]
+#[derive(Clone, Copy, Debug, PartialEq, Eq)]
 pub enum ContainerError {
     ShortInput,
     InvalidMagic,

@@ -1,67 +1,30 @@
 // The types of FB fields.
 ghost use Rattle.std.specs.Prelude.{◌≡◌};
-ghost use Rattle.base.specs.Small.{field_type_number, field_type_from, field_type_of, string_type};
+ghost use Rattle.base.specs.Small.{field_type_number, FieldTypeOf, string_type};
 
 use crate::char_width::CharWidth;
 use crate::error::ContainerError;
 
-#[derive(Clone, Copy)]
+#[derive(Clone, Copy, Debug, PartialEq, Eq)]
 pub enum FieldType {
-    I32,
-    U32,
-    I64,
-    U64,
-    F32,
-    F64,
-    String,
-    WString,
-    FbInstance,
-    Time,
-    Slot,
-}
-
-#[derive(Clone, Copy)]
-pub enum FieldTypeAnswer {
-    Refused(ContainerError),
-    Type(FieldType),
+    I32 = 0,
+    U32 = 1,
+    I64 = 2,
+    U64 = 3,
+    F32 = 4,
+    F64 = 5,
+    String = 6,
+    WString = 7,
+    FbInstance = 8,
+    Time = 9,
+    Slot = 10,
 }
 
 impl FieldType {
     pub fn number(self) -> u8
         ensures { result ≡ field_type_number self }
     {
-        match self {
-            FieldType::I32 => 0,
-            FieldType::U32 => 1,
-            FieldType::I64 => 2,
-            FieldType::U64 => 3,
-            FieldType::F32 => 4,
-            FieldType::F64 => 5,
-            FieldType::String => 6,
-            FieldType::WString => 7,
-            FieldType::FbInstance => 8,
-            FieldType::Time => 9,
-            FieldType::Slot => 10,
-        }
-    }
-
-    pub fn from_u8(v: u8) -> FieldTypeAnswer
-        ensures { field_type_from result ≡ field_type_of v }
-    {
-        match v {
-            0 => FieldTypeAnswer::Type(FieldType::I32),
-            1 => FieldTypeAnswer::Type(FieldType::U32),
-            2 => FieldTypeAnswer::Type(FieldType::I64),
-            3 => FieldTypeAnswer::Type(FieldType::U64),
-            4 => FieldTypeAnswer::Type(FieldType::F32),
-            5 => FieldTypeAnswer::Type(FieldType::F64),
-            6 => FieldTypeAnswer::Type(FieldType::String),
-            7 => FieldTypeAnswer::Type(FieldType::WString),
-            8 => FieldTypeAnswer::Type(FieldType::FbInstance),
-            9 => FieldTypeAnswer::Type(FieldType::Time),
-            10 => FieldTypeAnswer::Type(FieldType::Slot),
-            _ => FieldTypeAnswer::Refused(ContainerError::InvalidFieldType(v)),
-        }
+        self as u8
     }
 
     // The string type with this character width.
@@ -71,6 +34,29 @@ impl FieldType {
         match char_width {
             CharWidth::Narrow => FieldType::String,
             CharWidth::Wide => FieldType::WString,
+        }
+    }
+}
+
+impl TryFrom<u8> for FieldType {
+    type Error = ContainerError;
+
+    ghost try_from_gives = { FieldTypeOf };
+
+    fn try_from(value: u8) -> Result<Self, ContainerError> {
+        match value {
+            0 => Ok(FieldType::I32),
+            1 => Ok(FieldType::U32),
+            2 => Ok(FieldType::I64),
+            3 => Ok(FieldType::U64),
+            4 => Ok(FieldType::F32),
+            5 => Ok(FieldType::F64),
+            6 => Ok(FieldType::String),
+            7 => Ok(FieldType::WString),
+            8 => Ok(FieldType::FbInstance),
+            9 => Ok(FieldType::Time),
+            10 => Ok(FieldType::Slot),
+            _ => Err(ContainerError::InvalidFieldType(value)),
         }
     }
 }

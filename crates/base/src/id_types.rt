@@ -2,7 +2,7 @@
 ghost use Rattle.std.specs.Prelude.{◌≡◌};
 
 // A function, by its position in the code section's directory.
-#[derive(Clone, Copy)]
+#[derive(Clone, Copy, Debug, PartialEq, Eq)]
 pub struct FunctionId(pub u16);
 
 impl FunctionId {
@@ -29,7 +29,7 @@ impl FunctionId {
 }
 
 // A task.
-#[derive(Clone, Copy)]
+#[derive(Clone, Copy, Debug, PartialEq, Eq)]
 pub struct TaskId(pub u16);
 
 impl TaskId {
@@ -50,7 +50,7 @@ impl TaskId {
 }
 
 // A program instance.
-#[derive(Clone, Copy)]
+#[derive(Clone, Copy, Debug, PartialEq, Eq)]
 pub struct InstanceId(pub u16);
 
 impl InstanceId {
@@ -71,7 +71,7 @@ impl InstanceId {
 }
 
 // A function block type.
-#[derive(Clone, Copy)]
+#[derive(Clone, Copy, Debug, PartialEq, Eq)]
 pub struct FbTypeId(pub u16);
 
 impl FbTypeId {
@@ -89,7 +89,7 @@ impl FbTypeId {
 }
 
 // An index into the variable table.
-#[derive(Clone, Copy)]
+#[derive(Clone, Copy, Debug, PartialEq, Eq)]
 pub struct VarIndex(pub u16);
 
 impl VarIndex {
@@ -110,7 +110,7 @@ impl VarIndex {
 }
 
 // An index into the constant pool.
-#[derive(Clone, Copy)]
+#[derive(Clone, Copy, Debug, PartialEq, Eq)]
 pub struct ConstantIndex(pub u16);
 
 impl ConstantIndex {
@@ -128,7 +128,7 @@ impl ConstantIndex {
 }
 
 // An index into the debug section's source files.
-#[derive(Clone, Copy)]
+#[derive(Clone, Copy, Debug, PartialEq, Eq)]
 pub struct SourceFileId(pub u16);
 
 impl SourceFileId {
@@ -146,7 +146,7 @@ impl SourceFileId {
 }
 
 // A source line, from 1 on; 0 is unknown.
-#[derive(Clone, Copy)]
+#[derive(Clone, Copy, Debug, PartialEq, Eq)]
 pub struct SourceLine(pub u16);
 
 impl SourceLine {
@@ -164,7 +164,7 @@ impl SourceLine {
 }
 
 // A source column, from 1 on; 0 is unknown.
-#[derive(Clone, Copy)]
+#[derive(Clone, Copy, Debug, PartialEq, Eq)]
 pub struct SourceColumn(pub u16);
 
 impl SourceColumn {

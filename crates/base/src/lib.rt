@@ -3,7 +3,9 @@
 
 pub mod char_width;
 pub mod const_type;
+pub mod cut;
 pub mod digest;
+pub mod entry;
 pub mod error;
 pub mod field_type;
 pub mod id_types;

@@ -1,41 +1,35 @@
 // How a task is scheduled.
 ghost use Rattle.std.specs.Prelude.{◌≡◌};
-ghost use Rattle.base.specs.Small.{task_type_number, task_type_from, task_type_of};
+ghost use Rattle.base.specs.Small.{task_type_number, TaskTypeOf};
 
 use crate::error::ContainerError;
 
-#[derive(Clone, Copy)]
+#[derive(Clone, Copy, Debug, PartialEq, Eq)]
 pub enum TaskType {
-    Cyclic,
-    Event,
-    Freewheeling,
-}
-
-#[derive(Clone, Copy)]
-pub enum TaskTypeAnswer {
-    Refused(ContainerError),
-    Type(TaskType),
+    Cyclic = 0,
+    Event = 1,
+    Freewheeling = 2,
 }
 
 impl TaskType {
     pub fn number(self) -> u8
         ensures { result ≡ task_type_number self }
     {
-        match self {
-            TaskType::Cyclic => 0,
-            TaskType::Event => 1,
-            TaskType::Freewheeling => 2,
-        }
+        self as u8
     }
+}
 
-    pub fn from_u8(v: u8) -> TaskTypeAnswer
-        ensures { task_type_from result ≡ task_type_of v }
-    {
-        match v {
-            0 => TaskTypeAnswer::Type(TaskType::Cyclic),
-            1 => TaskTypeAnswer::Type(TaskType::Event),
-            2 => TaskTypeAnswer::Type(TaskType::Freewheeling),
-            _ => TaskTypeAnswer::Refused(ContainerError::InvalidTaskType(v)),
+impl TryFrom<u8> for TaskType {
+    type Error = ContainerError;
+
+    ghost try_from_gives = { TaskTypeOf };
+
+    fn try_from(value: u8) -> Result<Self, ContainerError> {
+        match value {
+            0 => Ok(TaskType::Cyclic),
+            1 => Ok(TaskType::Event),
+            2 => Ok(TaskType::Freewheeling),
+            _ => Err(ContainerError::InvalidTaskType(value)),
         }
     }
 }

@@ -1,24 +1,20 @@
 -- BLAKE3 in hash mode, 32 bytes out. Asked alone it refuses more than `hash_limit` bytes with 10 (document 01: "hash asked alone").
-use Rattle.std.specs.Prelude.{ℕ, List, leb, length}
+use Rattle.std.specs.Prelude.{ℕ, List, Result, Ok, Err, leb, length}
 use Rattle.reading.specs.Numbers.{word_bytes}
 use Rattle.reading.specs.Answer.{Got, refused, found, ◌>>◌, need}
 use Rattle.format.specs.Faults.{too_long}
 use Rattle.format.specs.Parts.{hash_limit}
 use Rattle.base.specs.Error.{fault_of}
 use Rattle.base.specs.Digest.{digest_bytes}
+use Rattle.base.specs.declared.digest.Digest.{Digest}
+use Rattle.base.specs.declared.error.ContainerError.{ContainerError}
 use Rattle.hasher.specs.Hash.{hash_words}
 use Rattle.hasher.specs.State.{fill, finished}
 use Rattle.hasher.specs.declared.Hasher.{Hasher}
-use Rattle.blake3.specs.declared.HashAnswer.{HashAnswer}
-use Rattle.blake3.specs.declared.HashAnswer.TheVariants as answer
 
 -- the digest's 32 bytes
 abbrev pub blake3 : List ℕ → List ℕ
 blake3 bs = word_bytes (hash_words bs)
-
-abbrev pub hash_from : HashAnswer → Got (List ℕ)
-hash_from (answer.Refused e) = refused (fault_of e)
-hash_from (answer.Digest d) = found (digest_bytes d)
 
 unfoldable pub hash_asked : List ℕ → Got (List ℕ)
 hash_asked bs = need (leb (length bs) hash_limit) too_long >> found (blake3 bs)

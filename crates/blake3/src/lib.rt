@@ -3,7 +3,9 @@
 
 ghost use Rattle.std.specs.Prelude.{◌≡◌};
 ghost use Rattle.hasher.specs.State.{start, fed};
-ghost use Rattle.blake3.specs.Blake3.{hash_from, hash_asked, finish_asked};
+ghost use Rattle.base.specs.Answers.{got_from};
+ghost use Rattle.base.specs.Digest.{digest_bytes};
+ghost use Rattle.blake3.specs.Blake3.{hash_asked, finish_asked};
 ghost use Rattle.blake3.specs.Laws.{Laws};
 
 use base::digest::Digest;
@@ -15,21 +17,15 @@ use hasher::one_chunk;
 // The most bytes that are hashed alone.
 pub const HASH_LIMIT: usize = 261376;
 
-#[derive(Clone, Copy)]
-pub enum HashAnswer {
-    Refused(ContainerError),
-    Digest(Digest),
-}
-
 // The digest of `bytes`; 10 if there are more than `HASH_LIMIT`.
-pub fn hash(bytes: &[u8]) -> HashAnswer
-    ensures { hash_from result ≡ hash_asked bytes.now }
+pub fn hash(bytes: &[u8]) -> Result<Digest, ContainerError>
+    ensures { got_from digest_bytes result ≡ hash_asked bytes.now }
 {
     if bytes.len() > HASH_LIMIT {
-        return HashAnswer::Refused(ContainerError::TooLong);
+        return Err(ContainerError::TooLong);
     }
     if bytes.len() <= CHUNK_LEN {
-        return HashAnswer::Digest(Digest::from_words(one_chunk(bytes)));
+        return Ok(Digest::from_words(one_chunk(bytes)));
     }
     finish(Hasher::new().update(bytes))
 }
@@ -42,13 +38,13 @@ pub fn new() -> Hasher
 }
 
 // The digest of all that a state was fed; 10 if that was over the limit, in however many parts.
-pub fn finish(state: Hasher) -> HashAnswer
-    ensures { hash_from result ≡ finish_asked state }
+pub fn finish(state: Hasher) -> Result<Digest, ContainerError>
+    ensures { got_from digest_bytes result ≡ finish_asked state }
 {
     if HASH_LIMIT < state.taken() {
-        return HashAnswer::Refused(ContainerError::TooLong);
+        return Err(ContainerError::TooLong);
     }
-    HashAnswer::Digest(Digest::from_words(state.finish()))
+    Ok(Digest::from_words(state.finish()))
 }
 
 // As the Rust's `update`: the state is lent, and altered in place.

@@ -6,14 +6,11 @@ use mathlib.Core.Option.{Option}
 use native.Mathlib.Omega.{arith}
 use lib.ListN.{length, take}
 use lib.Seq.{take-append-le, take_all}
+use Rattle.reading.specs.Fault.{Fault}
+use Rattle.reading.specs.Answer.{refused, found}
 use Rattle.format.specs.Record.{Container, read_from}
-use Rattle.base.specs.declared.error.ContainerError.{ContainerError}
+use Rattle.format.proofs.Answers.{never}
 use Rattle.blake3.specs.Blake3.{blake3}
-use Rattle.record.specs.Answers.{container_in}
-use Rattle.record.specs.declared.Container as code
-use Rattle.container.specs.Answers.{container_from}
-use Rattle.container.specs.declared.ContainerAnswer.{ContainerAnswer}
-use Rattle.container.specs.declared.ContainerAnswer.TheVariants as answer
 use Rattle.lookup_kinds.specs.Kinds.{looked_up}
 use Rattle.lookup_kinds.proofs.Laws as kinds
 use Rattle.record_numbers.specs.ToNumbers.{in_force_numbers, lookup_numbers, record_numbers}
@@ -44,30 +41,29 @@ first-numbers r =
     let n = ((numbers.laws).how-many r).0 in
     take-append-le number_count (0 ∷ lookup_numbers r) (in_force_numbers r.in_force) (omega arith) ∙ take_all number_count (0 ∷ lookup_numbers r) (omega arith)
 
-module _ (f : List ℕ) {r : ContainerAnswer} (read : container_from r ≡ read_from blake3 f) where
-  pub never-loads : {e : ContainerError} → r ≡ answer.Refused e → AsAsked f
-  never-loads is =
+module _ (f : List ℕ) where
+  pub never-loads : (e : Fault) → refused e ≡ read_from blake3 f → AsAsked f
+  never-loads d read =
       record {
-        all = λ more c e kind i j. let z : ◌≡◌ {A = ℕ} 0 1 = cc (rw is at read) in absurd (omega arith);
-        first = λ more c e kind i j. let z : ◌≡◌ {A = ℕ} 0 1 = cc (rw is at read) in absurd (omega arith);
-        how-many = λ c e. let z : ◌≡◌ {A = ℕ} 0 1 = cc (rw is at read) in absurd (omega arith);
+        all = λ more c e kind i j. never (read ∙ e);
+        first = λ more c e kind i j. never (read ∙ e);
+        how-many = λ c e. never (read ∙ e);
       }
 
-  pub loads : {c : code.Container} → r ≡ answer.Container c → Fits (container_in c) → AsAsked f
-  loads {c} is h =
-      let n = container_in c in
-      let l = sym (load_found f read is) in
+  pub loads : (n : Container) → found n ≡ read_from blake3 f → Fits n → AsAsked f
+  loads n read h =
+      let l = sym (load_found f n read) in
       record {
         all =
             λ more d e kind i j.
             ap (λ (ns : List ℕ). looked_up_in f (ns ++ more) kind i j) l
             ∙ ap (λ (ns : List ℕ). looked_up_in f ns kind i j) (append_assoc (0 ∷ lookup_numbers n) (in_force_numbers n.in_force) more)
             ∙ over-numbers f n (in_force_numbers n.in_force ++ more) h kind i j
-            ∙ ask-found f read is kind i j;
+            ∙ ask-found f n read kind i j;
         first =
             λ more d e kind i j.
             ap (λ (ns : List ℕ). looked_up_in f (ns ++ more) kind i j) (ap (take number_count) l ∙ first-numbers n)
             ∙ over-numbers f n more h kind i j
-            ∙ ask-found f read is kind i j;
+            ∙ ask-found f n read kind i j;
         how-many = λ d e. ap length l ∙ ((numbers.laws).how-many n).1;
       }

@@ -1,15 +1,15 @@
 // Numbers and digests in the buffers that the caller lends.
 ghost use Rattle.std.specs.Prelude.{◌≤◌, ◌≡◌, length};
 ghost use Rattle.base.specs.Digest.{digest_bytes};
-ghost use Rattle.blake3.specs.Blake3.{hash_from};
+ghost use Rattle.base.specs.Answers.{got_from};
 ghost use Rattle.lent.specs.Output.{put_at_start};
 ghost use Rattle.answer_numbers.specs.Answers.{numbers_in};
 ghost use Rattle.capi.specs.Lent.{digest_room, Answered, Hashed};
 
 use answer_numbers::{CAPACITY, Numbers, refusal};
 use base::digest::{Digest, HASH_LEN};
-use blake3::HashAnswer;
-use lent::{put_bytes, put_u64s};
+use base::error::ContainerError;
+use lent::put;
 
 // The room for numbers that a caller lends.
 pub const ROOM: usize = 64;
@@ -21,12 +21,8 @@ pub fn put_answer(out: &mut [u64], answer: Numbers) -> usize
     if out.len() < ROOM {
         return 0;
     }
-    let all = answer.numbers;
-    let count = answer.count;
-    if count < CAPACITY {
-        return put_u64s(out, 0, &all[..count]);
-    }
-    put_u64s(out, 0, &all)
+    let count = answer.count.min(CAPACITY);
+    put(out, 0, &answer.numbers[..count])
 }
 
 // The 32 bytes of a digest at the start of the buffer.
@@ -35,24 +31,21 @@ fn put_digest(out: &mut [u8], digest: Digest)
     ensures { out.new ≡ put_at_start out.old (digest_bytes digest) }
 {
     let bytes = digest.bytes();
-    put_bytes(out, 0, &bytes);
+    put(out, 0, &bytes);
 }
 
 // A hash: the digest at the start of its buffer and a 0 at the start of the other, or the refusal's numbers there, if there is room for both.
-pub fn put_hash(answer: HashAnswer, digest: &mut [u8], out: &mut [u64]) -> usize
-    ensures { Hashed (hash_from answer) digest.old digest.new out.old out.new result }
+pub fn put_hash(answer: Result<Digest, ContainerError>, digest: &mut [u8], out: &mut [u64]) -> usize
+    ensures { Hashed (got_from digest_bytes answer) digest.old digest.new out.old out.new result }
 {
-    if digest.len() < HASH_LEN {
-        return 0;
-    }
-    if out.len() < ROOM {
+    if digest.len() < HASH_LEN || out.len() < ROOM {
         return 0;
     }
     match answer {
-        HashAnswer::Refused(e) => put_answer(out, refusal(e)),
-        HashAnswer::Digest(d) => {
+        Ok(d) => {
             put_digest(digest, d);
-            put_u64s(out, 0, &[0])
+            put(out, 0, &[0])
         }
+        Err(e) => put_answer(out, refusal(e)),
     }
 }

@@ -7,7 +7,9 @@ mod buffers;
 mod loading;
 
 ghost use Rattle.std.specs.Prelude.{◌≡◌};
-ghost use Rattle.blake3.specs.Blake3.{hash_from, hash_asked};
+ghost use Rattle.base.specs.Answers.{got_from};
+ghost use Rattle.base.specs.Digest.{digest_bytes};
+ghost use Rattle.blake3.specs.Blake3.{hash_asked};
 ghost use Rattle.file_listing.specs.Texts.{file_listing};
 ghost use Rattle.answer_numbers.specs.Answers.{numbers_of};
 ghost use Rattle.lookup_kinds.specs.Kinds.{line_kind};
@@ -18,12 +20,10 @@ ghost use Rattle.capi.specs.Lent.{Answered, Hashed, Listed};
 use crate::buffers::{ROOM, put_answer, put_hash};
 use crate::loading::put_record;
 use answer_numbers::{Numbers, no_numbers, refusal};
-use blake3::HashAnswer;
-use container::{ContainerAnswer, read_from};
-use lent::Put;
-use lookup_kinds::kinds::LINE;
+use container::{ContainerError, Digest, read_from};
+use lookup_kinds::kinds::Kind;
 use lookup_kinds::lookup;
-use record_numbers::back::{MaybeRecord, record_of_numbers};
+use record_numbers::back::record_of_numbers;
 use record_numbers::numbers_fit;
 
 // A lookup over a file and the record that reading it yields.
@@ -31,8 +31,8 @@ fn ask(file: &[u8], kind: u16, index: u16, second: u16) -> Numbers
     ensures { result ≡ numbers_of (asked file.now kind index second) }
 {
     match read_from(file) {
-        ContainerAnswer::Refused(e) => refusal(e),
-        ContainerAnswer::Container(c) => lookup(c, file, kind, index, second),
+        Ok(c) => lookup(c, file, kind, index, second),
+        Err(e) => refusal(e),
     }
 }
 
@@ -45,8 +45,8 @@ pub extern "C" fn container_load(file: &[u8], out: &mut [u64]) -> usize
         return 0;
     }
     match read_from(file) {
-        ContainerAnswer::Refused(e) => put_answer(out, refusal(e)),
-        ContainerAnswer::Container(c) => put_record(out, c),
+        Ok(c) => put_record(out, c),
+        Err(e) => put_answer(out, refusal(e)),
     }
 }
 
@@ -69,8 +69,8 @@ fn lookup_in_numbers(file: &[u8], record: &[u64], kind: u16, index: u16, second:
     ensures { result ≡ numbers_of (looked_up_in file.now «record».now kind index second) }
 {
     match record_of_numbers(record) {
-        MaybeRecord::None => no_numbers(),
-        MaybeRecord::Some(c) => lookup(c, file, kind, index, second),
+        Some(c) => lookup(c, file, kind, index, second),
+        None => no_numbers(),
     }
 }
 
@@ -94,20 +94,14 @@ pub extern "C" fn container_lookup(
 pub extern "C" fn container_line(file: &[u8], function: u16, offset: u16, out: &mut [u64]) -> usize
     ensures { Answered out.old (asked file.now line_kind function offset) out.new result }
 {
-    put_answer(out, ask(file, LINE, function, offset))
+    put_answer(out, ask(file, Kind::Line.number(), function, offset))
 }
 
 // The content hash in the header of a file that reads.
-fn content_hash(file: &[u8]) -> HashAnswer
-    ensures { hash_from result ≡ content_hash_asked file.now }
+fn content_hash(file: &[u8]) -> Result<Digest, ContainerError>
+    ensures { got_from digest_bytes result ≡ content_hash_asked file.now }
 {
-    match read_from(file) {
-        ContainerAnswer::Refused(e) => HashAnswer::Refused(e),
-        ContainerAnswer::Container(c) => {
-            let digest = c.header.content_hash;
-            HashAnswer::Digest(digest)
-        }
-    }
+    Ok(read_from(file)?.header.content_hash)
 }
 
 // The same in the buffers: its 32 bytes in one, a 0 or a refusal in the other.
@@ -132,8 +126,8 @@ pub extern "C" fn container_list(file: &[u8], out: &mut [u8]) -> usize
     ensures { Listed out.old (file_listing file.now) out.new result }
 {
     match file_listing::put_file(out, 0, file) {
-        Put::NoRoom => 0,
-        Put::At(n) => n,
+        Some(n) => n,
+        None => 0,
     }
 }
 
@@ -143,8 +137,8 @@ pub fn lookup_as_asked(file: &[u8])
     ensures { AsAsked file.now }
 {
     match read_from(file) {
-        ContainerAnswer::Refused(_) => {}
-        ContainerAnswer::Container(c) => numbers_fit(c),
+        Ok(c) => numbers_fit(c),
+        Err(_) => {}
     }
 }
 

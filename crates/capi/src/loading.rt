@@ -7,7 +7,7 @@ ghost use Rattle.record_numbers.specs.ToNumbers.{header_numbers, lookup_numbers,
 ghost use Rattle.capi.specs.Lent.{room};
 
 use header::FileHeader;
-use lent::put_u64s;
+use lent::put;
 use record::Container;
 use record_numbers::{debug_counts, directory, head, in_force, runtime, task_counts, type_counts};
 
@@ -18,9 +18,9 @@ fn put_header(out: &mut [u64], h: FileHeader) -> usize
     let first = head(h);
     let places = directory(h.sections);
     let numbers = runtime(h.runtime);
-    let n = put_u64s(out, 0, &first);
-    let m = put_u64s(out, n, &places);
-    put_u64s(out, m, &numbers)
+    let n = put(out, 0, &first);
+    let m = put(out, n, &places);
+    put(out, m, &numbers)
 }
 
 // A 0 and the numbers that stand for the record in a lookup.
@@ -35,10 +35,10 @@ fn put_lookup_numbers(out: &mut [u64], c: Container) -> usize
     let of_constants = [c.constants as u64];
     let of_debug = debug_counts(debug);
     let n = put_header(out, c.header);
-    let m = put_u64s(out, n, &of_tasks);
-    let k = put_u64s(out, m, &of_types);
-    let j = put_u64s(out, k, &of_constants);
-    put_u64s(out, j, &of_debug)
+    let m = put(out, n, &of_tasks);
+    let k = put(out, m, &of_types);
+    let j = put(out, k, &of_constants);
+    put(out, j, &of_debug)
 }
 
 // A 0 and the record's numbers: behind those that a lookup needs, the rows of the debug tables in force.
@@ -48,5 +48,5 @@ pub fn put_record(out: &mut [u64], c: Container) -> usize
 {
     let rows = in_force(c.in_force);
     let n = put_lookup_numbers(out, c);
-    put_u64s(out, n, &rows)
+    put(out, n, &rows)
 }

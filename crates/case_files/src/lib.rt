@@ -7,6 +7,6 @@ mod lines;
 mod show;
 mod steps;
 
-pub use lines::{index, line_at, number, place_among, text};
-pub use show::{print_answer, print_name, print_number};
-pub use steps::{Now, START, is_step, step};
+pub use lines::{first_word, index, number, split_line, text};
+pub use show::{Field, print_answer, print_name, print_number};
+pub use steps::{Now, is_step, step};

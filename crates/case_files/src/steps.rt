@@ -1,93 +1,88 @@
 // The steps that every program of cases has: they make the file and the record's file, or lead to another line.
 use crate::files::{copy, fill};
-use crate::lines::{line_like, number, piece, place_among, text};
+use crate::lines::{first_word, from_line, number, split_line, text};
 
-// Where the next line starts, where `end` leads back to, and the lengths of the file and of the record's file.
+// The lines that are left, those that `end` leads back to, and the lengths of the file and of the record's file.
 #[derive(Clone, Copy)]
-pub struct Now {
-    pub at: usize,
-    pub back: usize,
+pub struct Now<'a> {
+    pub rest: &'a [u8],
+    pub back: &'a [u8],
     pub file: usize,
     pub own: usize,
 }
 
-pub const START: Now = Now {
-    at: 0,
-    back: 0,
-    file: 0,
-    own: 0,
-};
+impl<'a> Now<'a> {
+    pub fn start(cases: &'a [u8]) -> Now<'a> {
+        Now {
+            rest: cases,
+            back: cases,
+            file: 0,
+            own: 0,
+        }
+    }
+}
 
-// The steps, by the places of their words in the list of words, which starts with those of an empty line and of a note.
-const ZEROS: u8 = 2;
+#[derive(Clone, Copy, Debug, PartialEq, Eq)]
+enum Word {
+    // An empty line or a note.
+    Note,
+    Zeros,
+    Put,
+    Fill,
+    Length,
+    Record,
+    Do,
+    End,
+    Stop,
+}
 
-const PUT: u8 = 3;
-
-const FILL: u8 = 4;
-
-const LENGTH: u8 = 5;
-
-const RECORD: u8 = 6;
-
-const DO: u8 = 7;
-
-const END: u8 = 8;
-
-const STOP: u8 = 9;
-
-fn step_of(line: &[u8]) -> u8 {
-    place_among(b" # zeros put fill length record do: end stop", line)
+// The step of a line's first word.
+fn step_of(line: &[u8]) -> Option<Word> {
+    match first_word(line) {
+        b"" | b"#" => Some(Word::Note),
+        b"zeros" => Some(Word::Zeros),
+        b"put" => Some(Word::Put),
+        b"fill" => Some(Word::Fill),
+        b"length" => Some(Word::Length),
+        b"record" => Some(Word::Record),
+        b"do:" => Some(Word::Do),
+        b"end" => Some(Word::End),
+        b"stop" => Some(Word::Stop),
+        _ => None,
+    }
 }
 
 // Whether a line is empty, a note or one of these steps, and so prints nothing.
 pub fn is_step(line: &[u8]) -> bool {
-    step_of(line) <= STOP
+    step_of(line).is_some()
 }
 
-// What a step makes of the files.
-fn made(step: u8, line: &[u8], file: &mut [u8], own: &mut [u8], now: Now) -> Now {
-    let n = now.file;
+// Takes the step of the first line that is left; a line with another first word changes no file and leads to the next line.
+pub fn step<'a>(cases: &'a [u8], file: &mut [u8], own: &mut [u8], now: Now<'a>) -> Now<'a> {
+    let Some((line, behind)) = split_line(now.rest) else {
+        return now;
+    };
     let mut next = now;
-    match step {
-        ZEROS => {
-            copy(file, own, 0);
+    next.rest = behind;
+    match step_of(line) {
+        None | Some(Word::Note) => {}
+        Some(Word::Zeros) => {
+            file.fill(0);
             next.file = number(line, 1);
         }
-        PUT => fill(file, number(line, 1), 1, text(line)),
-        FILL => fill(file, number(line, 1), number(line, 2), text(line)),
-        LENGTH => next.file = number(line, 1),
-        RECORD => {
-            copy(own, file, n);
-            next.own = n;
+        Some(Word::Put) => fill(file, number(line, 1), 1, text(line)),
+        Some(Word::Fill) => fill(file, number(line, 1), number(line, 2), text(line)),
+        Some(Word::Length) => next.file = number(line, 1),
+        Some(Word::Record) => {
+            copy(own, file, now.file);
+            next.own = now.file;
         }
-        _ => {}
-    }
-    next
-}
-
-// Where a step leads, `behind` being the place behind its line.
-fn led(step: u8, cases: &[u8], line: &[u8], behind: usize, now: Now) -> Now {
-    let mut next = now;
-    match step {
-        DO => {
-            next.at = line_like(cases, text(line));
+        Some(Word::Do) => {
+            next.rest = from_line(cases, text(line));
             next.back = behind;
         }
-        END => next.at = now.back,
-        STOP => next.at = cases.len(),
-        _ => next.at = behind,
+        Some(Word::End) => next.rest = now.back,
+        Some(Word::Stop) => next.rest = &[],
     }
     next
-}
-
-// Takes the step of the line at `now`; a line with another first word changes no file and leads to the next line.
-pub fn step(cases: &[u8], file: &mut [u8], own: &mut [u8], now: Now) -> Now {
-    let at = now.at;
-    if at >= cases.len() {
-        return now;
-    }
-    let line = piece(cases, at, b'\n');
-    let word = step_of(line);
-    let next = made(word, line, file, own, now);
-    led(word, cases, line, at + line.len() + 1, next)
 }

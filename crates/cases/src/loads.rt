@@ -1,56 +1,62 @@
 // How a file loads, and the hash alone.
 use answer_numbers::refusal;
 use base::error::ContainerError;
-use blake3::{HASH_LIMIT, HashAnswer};
+use blake3::HASH_LIMIT;
 use case_files::{number, print_answer, print_number};
-use container::{Container, ContainerAnswer, MaybeDebug, MaybeTypes, read_for_program, read_from};
+use container::{read_for_program, read_from};
+use debug_tables::DebugCounts;
 use programs::{first, write};
+use record::Container;
+use type_section::TypeCounts;
 
 fn refused(rt: &impl Print, e: ContainerError) {
-    print_answer(rt, b"", refusal(e), b"");
+    print_answer(rt, b"", refusal(e), &[]);
 }
 
-fn types(rt: &impl Print, types: MaybeTypes) {
+fn counts(rt: &impl Print, counts: &[u16]) {
+    for n in counts {
+        print_number(rt, *n as u64);
+    }
+}
+
+fn types(rt: &impl Print, types: Option<TypeCounts>) {
     match types {
-        MaybeTypes::None => write(rt, b", no types"),
-        MaybeTypes::Some(t) => {
+        None => write(rt, b", no types"),
+        Some(t) => {
             write(rt, b", types");
-            print_number(rt, t.fb_types as u64);
-            print_number(rt, t.arrays as u64);
-            print_number(rt, t.user_fbs as u64);
+            counts(rt, &[t.fb_types, t.arrays, t.user_fbs]);
         }
     }
 }
 
-fn debug(rt: &impl Print, debug: MaybeDebug) {
+fn debug(rt: &impl Print, debug: Option<DebugCounts>) {
     write(rt, b", debug");
     match debug {
-        MaybeDebug::None => write(rt, b" none"),
-        MaybeDebug::Some(d) => {
-            print_number(rt, d.lines as u64);
-            print_number(rt, d.variables as u64);
-            print_number(rt, d.functions as u64);
-            print_number(rt, d.strings as u64);
-            print_number(rt, d.files as u64);
-            print_number(rt, d.enumerations as u64);
-        }
+        None => write(rt, b" none"),
+        Some(d) => counts(
+            rt,
+            &[
+                d.lines,
+                d.variables,
+                d.functions,
+                d.strings,
+                d.files,
+                d.enumerations,
+            ],
+        ),
     }
     write(rt, b"\n");
 }
 
-fn loaded(rt: &impl Print, c: Container) {
-    write(rt, b" loaded");
-    let has_types = c.types;
-    types(rt, has_types);
-    let has_debug = c.debug;
-    debug(rt, has_debug);
-}
-
 // Its refusal, or which counts its types and debug have.
-fn read(rt: &impl Print, answer: ContainerAnswer) {
+fn read(rt: &impl Print, answer: Result<Container, ContainerError>) {
     match answer {
-        ContainerAnswer::Refused(e) => refused(rt, e),
-        ContainerAnswer::Container(c) => loaded(rt, c),
+        Err(e) => refused(rt, e),
+        Ok(c) => {
+            write(rt, b" loaded");
+            types(rt, c.types);
+            debug(rt, c.debug);
+        }
     }
 }
 
@@ -62,16 +68,12 @@ pub fn load_in_program(rt: &impl Print, file: &[u8]) {
     read(rt, read_for_program(file));
 }
 
-// One byte over the hash limit.
-fn hash_room() -> [u8; HASH_LIMIT + 1] {
-    [0; HASH_LIMIT + 1]
-}
-
 // The hash alone of n zero bytes, n being the line's number: it is given, or refused.
 pub fn hash_alone(rt: &impl Print, line: &[u8]) {
-    let zeros = hash_room();
+    // One byte over the hash limit.
+    let zeros = [0; HASH_LIMIT + 1];
     match blake3::hash(first(&zeros, number(line, 1))) {
-        HashAnswer::Refused(e) => refused(rt, e),
-        HashAnswer::Digest(_) => write(rt, b" hashed\n"),
+        Err(e) => refused(rt, e),
+        Ok(_) => write(rt, b" hashed\n"),
     }
 }

@@ -1,57 +1,69 @@
 // Lookups over a file and a record, each by its kind; where walks start; the debug section's bad place and state; the rows that the record holds.
-use answer_numbers::{Numbers, refusal};
+use answer_numbers::answer_numbers;
+use base::error::ContainerError;
 use base::id_types::{ConstantIndex, FunctionId};
-use base::section::StartAnswer;
-use case_files::{index, place_among, print_answer, print_number};
-use container::{
-    BadPlace, Container, ContainerAnswer, DebugFault, DebugState, MaybeRow, RowsInForce, TableRow,
-};
-use debug_section::StartsAnswer;
-use lookup_kinds::kinds::{
-    ARRAY, BYTECODE, ENUMERATION, ENUMERATION_VALUE, FB_TYPE, FIELD, FUNCTION, FUNCTION_NAME,
-    GET_I32, GET_I64, GET_STR, KIND_COUNT, LINE, LINE_ENTRY, PROGRAM, SOURCE_FILE, STRING_LAYOUT,
-    TASK, USER_FB, VARIABLE,
-};
+use case_files::Field::{self, Number, Signed, Text};
+use case_files::{first_word, index, print_answer, print_number};
+use container::DebugState;
+use debug_tables::in_force::{RowsInForce, TableRow};
+use debug_text::DebugFault;
+use lookup_kinds::kinds::Kind;
 use programs::{write, write_decimal};
+use reading::Table;
+use record::Container;
 
-// How many walks have a word.
-const WALK_COUNT: u16 = 8;
-
-// The kind of a lookup by its word; the words are in the order of the kinds. Those of walks follow, then those of the bad place, the
-// state and the rows in force.
-fn kind_of(line: &[u8]) -> u16 {
-    place_among(
-        b"task program fb_type field array array_size user_fb constant i32 u32 i64 u64 f32 f64 str char_width function bytecode source_line line variable function_name string_layout source_file enumeration enumeration_value tasks: programs: fb_types: arrays: user_fbs: constants: functions: debug_tables: bad_place: debug_state: in_force:",
-        line,
-    ) as u16
-}
-
-// Prints some fields of an answer about tasks, types, constants or code, by their places (`print_answer`): a task's interval, a program's variable count, an
-// FB type's field count, a field's extra, an array's stride, a user FB's variable offset, a function's length, the place and size of a string or of bytecode;
-// of others the first number.
-fn print_run(rt: &impl Print, file: &[u8], kind: u16, answer: Numbers) {
-    match kind {
-        TASK | PROGRAM => print_answer(rt, file, answer, b"n5"),
-        FB_TYPE | FIELD => print_answer(rt, file, answer, b"n2"),
-        ARRAY => print_answer(rt, file, answer, b"n4"),
-        USER_FB | FUNCTION => print_answer(rt, file, answer, b"n3"),
-        GET_I32 | GET_I64 => print_answer(rt, file, answer, b"s1"),
-        GET_STR | BYTECODE => print_answer(rt, file, answer, b"n1n2"),
-        _ => print_answer(rt, file, answer, b"n1"),
+// The kind of a lookup by its word.
+fn kind_of(word: &[u8]) -> Option<Kind> {
+    match word {
+        b"task" => Some(Kind::Task),
+        b"program" => Some(Kind::Program),
+        b"fb_type" => Some(Kind::FbType),
+        b"field" => Some(Kind::Field),
+        b"array" => Some(Kind::Array),
+        b"array_size" => Some(Kind::ArraySize),
+        b"user_fb" => Some(Kind::UserFb),
+        b"constant" => Some(Kind::Constant),
+        b"i32" => Some(Kind::GetI32),
+        b"u32" => Some(Kind::GetU32),
+        b"i64" => Some(Kind::GetI64),
+        b"u64" => Some(Kind::GetU64),
+        b"f32" => Some(Kind::GetF32),
+        b"f64" => Some(Kind::GetF64),
+        b"str" => Some(Kind::GetStr),
+        b"char_width" => Some(Kind::CharWidth),
+        b"function" => Some(Kind::Function),
+        b"bytecode" => Some(Kind::Bytecode),
+        b"source_line" => Some(Kind::Line),
+        b"line" => Some(Kind::LineEntry),
+        b"variable" => Some(Kind::Variable),
+        b"function_name" => Some(Kind::FunctionName),
+        b"string_layout" => Some(Kind::StringLayout),
+        b"source_file" => Some(Kind::SourceFile),
+        b"enumeration" => Some(Kind::Enumeration),
+        b"enumeration_value" => Some(Kind::EnumerationValue),
+        _ => None,
     }
 }
 
-// The same of the debug tables: a source line and column; a variable's index, name and type name; a function's id and name; a string layout's variable, data
-// offset and length; a path; an enumeration's name and value count; a value's name.
-fn print_debug(rt: &impl Print, file: &[u8], kind: u16, answer: Numbers) {
+// The fields that are printed of an answer: a task's interval, a program's variable count, an FB type's field count, a field's extra, an array's stride, a
+// user FB's variable offset, a function's length, the place and size of a string or of bytecode; a source line and column; a variable's index, name and type
+// name; a function's id and name; a string layout's variable, data offset and length; a path; an enumeration's name and value count; a value's name; of others
+// the first number.
+fn fields_of(kind: Kind) -> &'static [Field] {
     match kind {
-        LINE | LINE_ENTRY => print_answer(rt, file, answer, b"n4n5"),
-        VARIABLE => print_answer(rt, file, answer, b"n1t5t7"),
-        FUNCTION_NAME => print_answer(rt, file, answer, b"n1t2"),
-        STRING_LAYOUT => print_answer(rt, file, answer, b"n1n2n3"),
-        SOURCE_FILE | ENUMERATION_VALUE => print_answer(rt, file, answer, b"t1"),
-        ENUMERATION => print_answer(rt, file, answer, b"t1n3"),
-        _ => {}
+        Kind::Task | Kind::Program => &[Number(5)],
+        Kind::FbType | Kind::Field => &[Number(2)],
+        Kind::Array => &[Number(4)],
+        Kind::UserFb | Kind::Function => &[Number(3)],
+        Kind::GetI32 | Kind::GetI64 => &[Signed(1)],
+        Kind::GetStr | Kind::Bytecode => &[Number(1), Number(2)],
+        Kind::Line | Kind::LineEntry => &[Number(4), Number(5)],
+        Kind::Variable => &[Number(1), Text(5), Text(7)],
+        Kind::FunctionName => &[Number(1), Text(2)],
+        Kind::StringLayout => &[Number(1), Number(2), Number(3)],
+        Kind::SourceFile | Kind::EnumerationValue => &[Text(1)],
+        Kind::Enumeration => &[Text(1), Number(3)],
+        _ => &[Number(1)],
     }
 }
 
@@ -63,74 +75,41 @@ fn returned(rt: &impl Print, bytes: &[u8]) {
 }
 
 // The lookup at an index, and at an index within it where it takes two; of a string and of bytecode also the bytes that are returned.
-fn lookup(rt: &impl Print, c: Container, file: &[u8], kind: u16, i: u16, j: u16) {
-    let answer = lookup_kinds::lookup(c, file, kind, i, j);
-    if kind < LINE {
-        print_run(rt, file, kind, answer);
-    } else {
-        print_debug(rt, file, kind, answer);
-    }
-    if kind == GET_STR {
-        returned(rt, c.get_str(file, ConstantIndex(i)));
-    }
-    if kind == BYTECODE {
-        returned(rt, c.get_function_bytecode(file, FunctionId(i)));
+fn lookup(rt: &impl Print, c: Container, file: &[u8], kind: Kind, i: u16, j: u16) {
+    let answer = lookup_kinds::lookup(c, file, kind.number(), i, j);
+    print_answer(rt, file, answer, fields_of(kind));
+    match kind {
+        Kind::GetStr => returned(rt, c.get_str(file, ConstantIndex(i))),
+        Kind::Bytecode => returned(rt, c.get_function_bytecode(file, FunctionId(i))),
+        _ => {}
     }
 }
 
-// Of the debug tables, where the lines start.
-fn line_start(starts: StartsAnswer) -> StartAnswer {
-    match starts {
-        StartsAnswer::Refused(e) => StartAnswer::Refused(e),
-        StartsAnswer::Starts(t) => {
-            let lines = t.lines;
-            StartAnswer::Start(lines)
-        }
-    }
-}
-
-// Where a walk over a table starts, by the place of its word among those of walks.
-fn start(c: Container, file: &[u8], walk: u16) -> StartAnswer {
-    match walk {
-        0 => c.tasks(file),
-        1 => c.programs(file),
-        2 => c.fb_types(file),
-        3 => c.arrays(file),
-        4 => c.user_fbs(file),
-        5 => c.constants(file),
-        6 => c.functions(file),
-        _ => line_start(c.debug_tables(file)),
+// Where a walk over a table starts, by its word.
+fn start(c: Container, file: &[u8], word: &[u8]) -> Option<Result<Table, ContainerError>> {
+    match word {
+        b"tasks:" => Some(c.tasks(file)),
+        b"programs:" => Some(c.programs(file)),
+        b"fb_types:" => Some(c.fb_types(file)),
+        b"arrays:" => Some(c.arrays(file)),
+        b"user_fbs:" => Some(c.user_fbs(file)),
+        b"constants:" => Some(c.constants(file)),
+        b"functions:" => Some(c.functions(file)),
+        b"debug_tables:" => Some(c.debug_tables(file).map(|t| t.lines)),
+        _ => None,
     }
 }
 
 // How many entries the walk starts with.
-fn walk(rt: &impl Print, c: Container, file: &[u8], walk: u16) {
-    let answer = match start(c, file, walk) {
-        StartAnswer::Refused(e) => refusal(e),
-        StartAnswer::Start(t) => Numbers {
-            numbers: [0, t.count as u64, 0, 0, 0, 0, 0, 0, 0, 0, 0, 0],
-            count: 2,
-        },
-    };
-    print_answer(rt, file, answer, b"n1");
-}
-
-// The record with 21 as the size of its code, if that is asked for.
-fn shortened(c: Container, short_code: bool) -> Container {
-    if short_code {
-        let mut header = c.header;
-        header.sections.code_section.size = 21;
-        let mut r = c;
-        r.header = header;
-        return r;
-    }
-    c
+fn walk(rt: &impl Print, file: &[u8], start: Result<Table, ContainerError>) {
+    let answer = answer_numbers(start.map(|t| t.count as u64));
+    print_answer(rt, file, answer, &[Number(1)]);
 }
 
 fn bad_place(rt: &impl Print, c: Container, file: &[u8]) {
     match c.bad_place(file) {
-        BadPlace::None => write(rt, b" none"),
-        BadPlace::At(p) => print_number(rt, p as u64),
+        None => write(rt, b" none"),
+        Some(p) => print_number(rt, p as u64),
     }
     write(rt, b"\n");
 }
@@ -158,10 +137,9 @@ fn debug_state(rt: &impl Print, c: Container, file: &[u8]) {
 
 // A row and how many it replaced.
 fn table_row(rt: &impl Print, t: TableRow) {
-    let row = t.row;
-    match row {
-        MaybeRow::None => write(rt, b" none"),
-        MaybeRow::At(i) => print_number(rt, i as u64),
+    match t.row {
+        None => write(rt, b" none"),
+        Some(i) => print_number(rt, i as u64),
     }
     write(rt, b"+");
     write_decimal(rt, t.replaced as u64);
@@ -180,28 +158,27 @@ fn in_force(rt: &impl Print, u: RowsInForce) {
 
 // The line's lookup, walk, bad place or state over a file and the record of another, or that record's rows. An unknown word prints nothing.
 fn ask(rt: &impl Print, c: Container, file: &[u8], line: &[u8]) {
-    let kind = kind_of(line);
-    if kind < KIND_COUNT {
+    let word = first_word(line);
+    if let Some(kind) = kind_of(word) {
         lookup(rt, c, file, kind, index(line, 1), index(line, 2));
-        return;
     }
-    if kind < KIND_COUNT + WALK_COUNT {
-        walk(rt, c, file, kind - KIND_COUNT);
-        return;
+    if let Some(table) = start(c, file, word) {
+        walk(rt, file, table);
     }
-    if kind == KIND_COUNT + WALK_COUNT {
-        bad_place(rt, c, file);
-    }
-    if kind == KIND_COUNT + WALK_COUNT + 1 {
-        debug_state(rt, c, file);
-    }
-    if kind == KIND_COUNT + WALK_COUNT + 2 {
-        in_force(rt, c.in_force);
+    match word {
+        b"bad_place:" => bad_place(rt, c, file),
+        b"debug_state:" => debug_state(rt, c, file),
+        b"in_force:" => in_force(rt, c.in_force),
+        _ => {}
     }
 }
 
+// The record of `own`, with 21 as the size of its code if that is asked for.
 pub fn over(rt: &impl Print, own: &[u8], short_code: bool, file: &[u8], line: &[u8]) {
-    if let ContainerAnswer::Container(c) = container::read_from(own) {
-        ask(rt, shortened(c, short_code), file, line);
+    if let Ok(mut c) = container::read_from(own) {
+        if short_code {
+            c.header.sections.code_section.size = 21;
+        }
+        ask(rt, c, file, line);
     }
 }

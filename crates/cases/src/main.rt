@@ -3,7 +3,7 @@
 // standard input, one step to a line, as its first lines say; each prints its name and then the answer.
 #![tactic(auto)]
 
-use case_files::{START, is_step, line_at, place_among, print_name, step, text};
+use case_files::{Now, first_word, is_step, print_name, split_line, step, text};
 use programs::{file_room, first, read_input, write};
 
 mod loads;
@@ -12,71 +12,47 @@ mod lookups;
 // More than the steps taken.
 const MOST_STEPS: usize = 65536;
 
-// The words of this program's own steps, by their places; any other word is a lookup's.
-const RECORD: u8 = 0;
-
-const SHORT_CODE: u8 = 1;
-
-const TITLE: u8 = 2;
-
-const LOAD: u8 = 3;
-
-const PROGRAM: u8 = 4;
-
-const HASH_ALONE: u8 = 5;
-
-fn word_of(line: &[u8]) -> u8 {
-    place_among(b"record short_code title: load: program: hash_alone", line)
-}
-
 // What a line prints; one with an unknown first word prints its name and no answer.
-fn print(rt: &impl Print, word: u8, line: &[u8], file: &[u8], own: &[u8], short_code: bool) {
-    if is_step(line) {
-        return;
-    }
-    if word == SHORT_CODE {
+fn print(rt: &impl Print, line: &[u8], file: &[u8], own: &[u8], short_code: bool) {
+    let word = first_word(line);
+    if is_step(line) || word == b"short_code".as_slice() {
         return;
     }
     print_name(rt, text(line));
     match word {
-        TITLE => write(rt, b"\n"),
-        LOAD => loads::load(rt, file),
-        PROGRAM => loads::load_in_program(rt, file),
-        HASH_ALONE => loads::hash_alone(rt, line),
+        b"title:" => write(rt, b"\n"),
+        b"load:" => loads::load(rt, file),
+        b"program:" => loads::load_in_program(rt, file),
+        b"hash_alone" => loads::hash_alone(rt, line),
         _ => lookups::over(rt, own, short_code, file, line),
     }
 }
 
 // Whether lookups use the record with another size of its code.
-fn is_short(word: u8, short_code: bool) -> bool {
-    match word {
-        RECORD => false,
-        SHORT_CODE => true,
+fn is_short(line: &[u8], short_code: bool) -> bool {
+    match first_word(line) {
+        b"record" => false,
+        b"short_code" => true,
         _ => short_code,
     }
 }
 
 fn run(rt: &impl Print, cases: &[u8], file: &mut [u8], own: &mut [u8]) {
-    let mut now = START;
+    let mut now = Now::start(cases);
     let mut short_code = false;
     for _ in 0..MOST_STEPS {
-        let at = now.at;
-        if at >= cases.len() {
+        let Some((line, _)) = split_line(now.rest) else {
             return;
-        }
-        let line = line_at(cases, at);
-        let word = word_of(line);
-        short_code = is_short(word, short_code);
+        };
+        short_code = is_short(line, short_code);
         print(
             rt,
-            word,
             line,
             first(file, now.file),
             first(own, now.own),
             short_code,
         );
-        let next = step(cases, file, own, now);
-        now = next;
+        now = step(cases, file, own, now);
     }
 }
 

@@ -22,7 +22,7 @@ use Rattle.format.specs.Code.{Function, function, Code, code_of, bytecode_of}
 use Rattle.format.specs.Lookups.{read_at, function_of, function_bytes_of}
 use Rattle.format.proofs.Answers.{never, item-got}
 use Rattle.format.proofs.Readers.{local-function}
-use Rattle.code_section.specs.Lookups.{func_entry_size, directory_at, next_function_at}
+use Rattle.code_section.specs.Lookups.{func_entry_size, code_reads, directory_at, next_function_at}
 use Rattle.code_section.specs.Laws.{Laws}
 use Rattle.base.proofs.FileLookups.{Answered, answered, placed}
 use Rattle.base.proofs.FileWalks.{opened, walk-gives-from}
@@ -78,8 +78,15 @@ module _ (n : ℕ) (s : List ℕ) where
   pub short-refused : {A : Type 0} (go : Code → Got A) → length s < func_entry_size * n → refused short_input ≡ (item_of (code_of n s) >>= go)
   short-refused go h = rw (code-short h)
 
-  pub code-good : func_entry_size * n ≤ length s → found tt ≡ (item_of (code_of n s) >>= λ c. found (tt {0}))
-  code-good h = rw (directory h).code
+  pub code-good : {A : Type 0} (a : A) → func_entry_size * n ≤ length s → found a ≡ (item_of (code_of n s) >>= λ c. found a)
+  code-good a h = rw (directory h).code
+
+  pub code-long : found tt ≡ code_reads n s → func_entry_size * n ≤ length s
+  code-long e = go (dec_le (func_entry_size * n) (length s))
+    where
+      go : Dec (func_entry_size * n ≤ length s) → func_entry_size * n ≤ length s
+      go (yes l) = l
+      go (no l) = never (short-refused (λ c. found tt) (omega arith) ∙ sym e)
 
   -- the function at a position
   pub function-out : (k : ℕ) → func_entry_size * n ≤ length s → n ≤ k → refused no_function ≡ (item_of (code_of n s) >>= function_of k)

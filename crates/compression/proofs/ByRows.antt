@@ -5,31 +5,6 @@ use Rattle.compression.specs.Compression.{at, quarter, put, mix, round}
 use Rattle.compression.specs.Rows.{sum3, sum, turn, square, four, half, shifted, back}
 use Rattle.compression.specs.Laws.{spread}
 
--- a row from its four words: a sum, and a rotation by any distance
-module _ (a b : List ℕ) {x0 x1 x2 x3 : ℕ} where
-  pub summed : x0 ≡ add32 (at a 0) (at b 0) → x1 ≡ add32 (at a 1) (at b 1) → x2 ≡ add32 (at a 2) (at b 2) → x3 ≡ add32 (at a 3) (at b 3) → x0 ∷ x1 ∷ x2 ∷ x3 ∷ [] ≡ sum a b
-  unfolding sum
-  summed e0 e1 e2 e3 = cc
-
-  pub turned : (n : ℕ) → x0 ≡ rotr n (xor (at a 0) (at b 0)) → x1 ≡ rotr n (xor (at a 1) (at b 1)) → x2 ≡ rotr n (xor (at a 2) (at b 2)) → x3 ≡ rotr n (xor (at a 3) (at b 3)) → x0 ∷ x1 ∷ x2 ∷ x3 ∷ [] ≡ turn n a b
-  unfolding turn
-  turned n e0 e1 e2 e3 = cc
-
--- the steps of four quarter-rounds, each result a variable
-pub halved : (v x y : List ℕ) {a1 d1 c1 b1 a2 d2 c2 b2 r : List ℕ}
-    → a1 ≡ sum3 (four v 0 1 2 3) (four v 4 5 6 7) x
-    → d1 ≡ turn 16 (four v 12 13 14 15) a1
-    → c1 ≡ sum (four v 8 9 10 11) d1
-    → b1 ≡ turn 12 (four v 4 5 6 7) c1
-    → a2 ≡ sum3 a1 b1 y
-    → d2 ≡ turn 8 d1 a2
-    → c2 ≡ sum c1 d2
-    → b2 ≡ turn 7 b1 c2
-    → r ≡ square a2 b2 c2 d2
-    → r ≡ half v x y
-unfolding half
-halved v x y e1 e2 e3 e4 e5 e6 e7 e8 e9 = cc
-
 -- the columns, then the diagonals
 unfoldable by_rows : List ℕ → List ℕ → List ℕ
 by_rows v m = back (half (shifted (half v (four m 0 2 4 6) (four m 1 3 5 7))) (four m 8 10 12 14) (four m 9 11 13 15))

@@ -1,7 +1,7 @@
 // BLAKE3's compression function. Each contract says that the result equals a definition in specs/.
 #![tactic(auto)]
 
-ghost use Rattle.std.specs.Prelude.{◌≡◌, ◌+◌, ◌≤◌, ◌++◌, length, drop};
+ghost use Rattle.std.specs.Prelude.{◌≡◌, ◌+◌, ◌<◌, ◌≤◌, ◌++◌, length, drop};
 ghost use Rattle.compression.specs.Word as Word;
 ghost use Rattle.compression.specs.Compression as Compression;
 ghost use Rattle.compression.specs.Rows as Rows;
@@ -39,47 +39,25 @@ pub fn iv() -> [u32; 8]
     IV
 }
 
-// a + b modulo 2^32.
-fn add(a: u32, b: u32) -> u32
-    ensures { result ≡ Word.add32 a b }
+// x rotated right by n.
+#[tactic(auto, using(crate::proofs::Rotations::rotated))]
+fn rotr(x: u32, n: u32) -> u32
+    requires { (0 < n) × (n < 32) }
+    ensures { result ≡ Word.rotr n x }
 {
-    std::num::wrapping_add_u32(a, b)
-}
-
-// The rotations. The two parts share no bit, so their sum compiles to one rotate instruction.
-fn rotr16(x: u32) -> u32
-    ensures { result ≡ Word.rotr 16 x }
-{
-    (x >> 16) + (x << 16)
-}
-
-fn rotr12(x: u32) -> u32
-    ensures { result ≡ Word.rotr 12 x }
-{
-    (x >> 12) + (x << 20)
-}
-
-fn rotr8(x: u32) -> u32
-    ensures { result ≡ Word.rotr 8 x }
-{
-    (x >> 8) + (x << 24)
-}
-
-fn rotr7(x: u32) -> u32
-    ensures { result ≡ Word.rotr 7 x }
-{
-    (x >> 7) + (x << 25)
+    x.rotate_right(n)
 }
 
 // The state is a square of words. A round works on its rows, on four words at a time; here a + b.
+#[tactic(auto, unfolding(crate::specs::Rows::sum))]
 fn sum(a: [u32; 4], b: [u32; 4]) -> [u32; 4]
     ensures { result ≡ Rows.sum a b }
 {
     [
-        add(a[0], b[0]),
-        add(a[1], b[1]),
-        add(a[2], b[2]),
-        add(a[3], b[3]),
+        a[0].wrapping_add(b[0]),
+        a[1].wrapping_add(b[1]),
+        a[2].wrapping_add(b[2]),
+        a[3].wrapping_add(b[3]),
     ]
 }
 
@@ -90,48 +68,18 @@ fn sum3(a: [u32; 4], b: [u32; 4], x: [u32; 4]) -> [u32; 4]
     sum(sum(a, b), x)
 }
 
-// a ^ b, each word rotated right by 16, 12, 8 or 7.
-fn turn16(a: [u32; 4], b: [u32; 4]) -> [u32; 4]
-    ensures { result ≡ Rows.turn 16 a b }
+// a ^ b, each word rotated right by n.
+#[tactic(auto, unfolding(crate::specs::Rows::turn))]
+#[inline(always)]
+fn turn(a: [u32; 4], b: [u32; 4], n: u32) -> [u32; 4]
+    requires { (0 < n) × (n < 32) }
+    ensures { result ≡ Rows.turn n a b }
 {
     [
-        rotr16(a[0] ^ b[0]),
-        rotr16(a[1] ^ b[1]),
-        rotr16(a[2] ^ b[2]),
-        rotr16(a[3] ^ b[3]),
-    ]
-}
-
-fn turn12(a: [u32; 4], b: [u32; 4]) -> [u32; 4]
-    ensures { result ≡ Rows.turn 12 a b }
-{
-    [
-        rotr12(a[0] ^ b[0]),
-        rotr12(a[1] ^ b[1]),
-        rotr12(a[2] ^ b[2]),
-        rotr12(a[3] ^ b[3]),
-    ]
-}
-
-fn turn8(a: [u32; 4], b: [u32; 4]) -> [u32; 4]
-    ensures { result ≡ Rows.turn 8 a b }
-{
-    [
-        rotr8(a[0] ^ b[0]),
-        rotr8(a[1] ^ b[1]),
-        rotr8(a[2] ^ b[2]),
-        rotr8(a[3] ^ b[3]),
-    ]
-}
-
-fn turn7(a: [u32; 4], b: [u32; 4]) -> [u32; 4]
-    ensures { result ≡ Rows.turn 7 a b }
-{
-    [
-        rotr7(a[0] ^ b[0]),
-        rotr7(a[1] ^ b[1]),
-        rotr7(a[2] ^ b[2]),
-        rotr7(a[3] ^ b[3]),
+        rotr(a[0] ^ b[0], n),
+        rotr(a[1] ^ b[1], n),
+        rotr(a[2] ^ b[2], n),
+        rotr(a[3] ^ b[3], n),
     ]
 }
 
@@ -146,6 +94,8 @@ fn square(a: [u32; 4], b: [u32; 4], c: [u32; 4], d: [u32; 4]) -> [u32; 16]
 }
 
 // Four quarter-rounds side by side, on the columns of the state: first the words x of the message, then y.
+#[tactic(auto, unfolding(crate::specs::Rows::half))]
+#[inline(always)]
 pub fn half(v: [u32; 16], x: [u32; 4], y: [u32; 4]) -> [u32; 16]
     ensures { result ≡ Rows.half v x y }
 {
@@ -154,17 +104,19 @@ pub fn half(v: [u32; 16], x: [u32; 4], y: [u32; 4]) -> [u32; 16]
     let c0 = [v[8], v[9], v[10], v[11]];
     let d0 = [v[12], v[13], v[14], v[15]];
     let a1 = sum3(a0, b0, x);
-    let d1 = turn16(d0, a1);
+    let d1 = turn(d0, a1, 16);
     let c1 = sum(c0, d1);
-    let b1 = turn12(b0, c1);
+    let b1 = turn(b0, c1, 12);
     let a2 = sum3(a1, b1, y);
-    let d2 = turn8(d1, a2);
+    let d2 = turn(d1, a2, 8);
     let c2 = sum(c1, d2);
-    let b2 = turn7(b1, c2);
+    let b2 = turn(b1, c2, 7);
     square(a2, b2, c2, d2)
 }
 
 // The rows below the first shifted by 1, 2 and 3 places, which makes columns of the diagonals.
+#[tactic(auto, unfolding(crate::specs::Rows::shifted))]
+#[inline(always)]
 pub fn shifted(v: [u32; 16]) -> [u32; 16]
     ensures { result ≡ Rows.shifted v }
 {
@@ -175,6 +127,8 @@ pub fn shifted(v: [u32; 16]) -> [u32; 16]
 }
 
 // The rows shifted back.
+#[tactic(auto, unfolding(crate::specs::Rows::back))]
+#[inline(always)]
 pub fn back(v: [u32; 16]) -> [u32; 16]
     ensures { result ≡ Rows.back v }
 {
@@ -185,7 +139,8 @@ pub fn back(v: [u32; 16]) -> [u32; 16]
 }
 
 // A round: the four columns, then the four diagonals.
-fn round(v: [u32; 16], m: [u32; 16]) -> [u32; 16]
+#[inline(always)]
+pub fn round(v: [u32; 16], m: [u32; 16]) -> [u32; 16]
     ensures { result ≡ Compression.round v m }
 {
     let columns = half(v, [m[0], m[2], m[4], m[6]], [m[1], m[3], m[5], m[7]]);
@@ -198,7 +153,8 @@ fn round(v: [u32; 16], m: [u32; 16]) -> [u32; 16]
 }
 
 // The order in which the next round takes the words of the message.
-fn permute(m: [u32; 16]) -> [u32; 16]
+#[inline(always)]
+pub fn permute(m: [u32; 16]) -> [u32; 16]
     ensures { result ≡ Compression.permute m }
 {
     [
@@ -207,22 +163,27 @@ fn permute(m: [u32; 16]) -> [u32; 16]
     ]
 }
 
-// The seven rounds.
-fn rounds(state: [u32; 16], block: [u32; 16]) -> [u32; 16]
-    ensures { result ≡ Compression.rounds 7 state block }
+// The seven rounds, one after the other, so that no message is permuted at run time.
+fn rounds(v: [u32; 16], m: [u32; 16]) -> [u32; 16]
+    ensures { result ≡ Compression.rounds 7 v m }
 {
-    let mut v = state;
-    let mut m = block;
-    for _ in 0..7usize {
-        let w = round(v, m);
-        let n = permute(m);
-        v = w;
-        m = n;
-    }
-    v
+    let v1 = round(v, m);
+    let m1 = permute(m);
+    let v2 = round(v1, m1);
+    let m2 = permute(m1);
+    let v3 = round(v2, m2);
+    let m3 = permute(m2);
+    let v4 = round(v3, m3);
+    let m4 = permute(m3);
+    let v5 = round(v4, m4);
+    let m5 = permute(m4);
+    let v6 = round(v5, m5);
+    let m6 = permute(m5);
+    round(v6, m6)
 }
 
 // The state that compression starts from.
+#[inline(always)]
 pub fn start(h: [u32; 8], t: u64, block_len: u32, flags: u32) -> [u32; 16]
     ensures { result ≡ Compression.start h t block_len flags }
 {
@@ -247,6 +208,7 @@ pub fn start(h: [u32; 8], t: u64, block_len: u32, flags: u32) -> [u32; 16]
 }
 
 // The two halves of the state combined, word by word.
+#[inline(always)]
 pub fn fold(v: [u32; 16]) -> [u32; 8]
     ensures { result ≡ Compression.fold v }
 {
@@ -262,11 +224,21 @@ pub fn fold(v: [u32; 16]) -> [u32; 8]
     ]
 }
 
+// In place, so that a chain of blocks copies no chaining value.
+#[tactic(auto, unfolding(crate::specs::Compression::compress))]
+pub fn compress_in_place(h: &mut [u32; 8], m: [u32; 16], t: u64, block_len: u32, flags: u32)
+    ensures { h.new ≡ Compression.compress h.old m t block_len flags }
+{
+    *h = fold(rounds(start(*h, t, block_len, flags), m));
+}
+
 // The first eight words of the compression function: chaining value h, message m, counter t, the block's length, flags.
 pub fn compress(h: [u32; 8], m: [u32; 16], t: u64, block_len: u32, flags: u32) -> [u32; 8]
     ensures { result ≡ Compression.compress h m t block_len flags }
 {
-    fold(rounds(start(h, t, block_len, flags), m))
+    let mut c = h;
+    compress_in_place(&mut c, m, t, block_len, flags);
+    c
 }
 
 // The flag of a block that is not its chunk's last, after this many blocks of the chunk.
@@ -303,8 +275,8 @@ pub fn words_of(b: [u8; BLOCK_LEN]) -> [u32; 16]
 pub fn join(l: [u32; 8], r: [u32; 8]) -> [u32; 16]
     ensures { result ≡ l ++ r }
 {
-    [
-        l[0], l[1], l[2], l[3], l[4], l[5], l[6], l[7], r[0], r[1], r[2], r[3], r[4], r[5], r[6],
-        r[7],
-    ]
+    let mut m = [0u32; 16];
+    m[..8].copy_from_slice(&l);
+    m[8..].copy_from_slice(&r);
+    m
 }

@@ -1,5 +1,4 @@
 pub mod Numbers
 pub mod Entries
 pub mod Pool
-pub mod Getters
 pub mod Walks

@@ -1,20 +1,16 @@
--- Numbers and their bytes, low byte first; numbers in two's complement.
+-- A constant's number and its eight bytes, low byte first.
 use Prim.Native.Nat.{ℕ, zero, suc, ◌+◌, ◌*◌, ◌-◌, ◌/◌, ◌%◌, ◌^◌, ◌≤◌, ◌<◌}
-use native.Mathlib.Nat.{sub-zero, zero-add}
+use native.Mathlib.Nat.{sub-zero, add-sub_cancel_left, pow-succ'}
 use native.Mathlib.Omega.{arith}
-use borrow.Author.Tests.{lt-ltb, le-ltb}
 use mathlib.Core.Path.{◌≡◌, refl, ap, ◌∙◌}
 use mathlib.Core.List.{List, [], ◌∷◌, ◌++◌}
-use lib.ListN.{length, take, replicate}
-use lib.Pow.{pow_pos}
-use lib.IntN.{pos, negsuc, ◌-ℤ◌}
-use mir.Syntax.{Width}
-use mir.Val.{hbits}
-use mir.Val.{to_z, SFits}
-use mir.ValLaws.{to_z_pos}
-use Rattle.reading.specs.Numbers.{le, bytes_le}
-use Rattle.reading.proofs.Le.{Bytes, le-all}
-use Rattle.format.specs.Constants.{signed}
+use lib.ListN.{length, take, drop, replicate}
+use Rattle.std.specs.Int.{byte_at, bytes_low_first}
+use Rattle.std.proofs.Math.Nat.{div-div-eq-div-mul}
+use Rattle.std.proofs.lemmas.List.{take_all, drop-replicate}
+use Rattle.reading.specs.Numbers.{le, le_at, bytes_le}
+use Rattle.reading.proofs.Le.{Bytes, bytes-part, le-all, le-take-fill}
+use Rattle.reading.proofs.Parts.{length_part}
 
 bytes-zero : (w : ℕ) → bytes_le w 0 ≡ replicate w 0
 unfolding bytes_le
@@ -34,28 +30,24 @@ bytes-filled (suc w) (x ∷ b) h l =
     rw (low, high, ih, fill)
 
 -- a number taken apart and put together again: all of its bytes, and the first four of eight
-pub le-eight : (n : ℕ) → n < 2 ^ 64 → le (take 8 (bytes_le 8 n)) ≡ n
+pub le_eight : (n : ℕ) → n < 2 ^ 64 → le (take 8 (bytes_le 8 n)) ≡ n
 unfolding bytes_le
-le-eight n h = le-all 8 n h
+le_eight n h = le-all 8 n h
 
 pub le_four : (n : ℕ) → le (take 4 (bytes_le 8 n)) ≡ n % 4294967296
 unfolding bytes_le le
 le_four n = omega arith
 
--- the code's -1 - d
-minus : (d : ℕ) → negsuc 0 -ℤ pos d ≡ negsuc d
-minus zero = refl
-minus (suc d) = rw zero-add
+-- the number of a part of at most eight bytes, as eight bytes; and as that part, copied to the start of eight zeros
+module _ (s : List ℕ) (at size : ℕ) (h : at + size ≤ length s) (m : size ≤ 8) where
+  pub part_filled : (w n : ℕ) → Bytes s → size ≡ w → n ≡ le_at w s at → bytes_le 8 n ≡ take size (drop at s) ++ replicate (8 - size) 0
+  part_filled w n b z e =
+      let l : length (take size (drop at s)) ≡ size = length_part s at size h in
+      let f = bytes-filled 8 (take size (drop at s)) (bytes-part s at size b) (omega arith) in
+      rw (e, ← z) (f ∙ rw l)
 
--- numbers in two's complement of any width
-module _ (w : Width) where
-  pub signed_low : (n : ℕ) → n < 2 ^ hbits w → to_z w n ≡ signed (2 ^ hbits w) n
-  signed_low n h = to_z_pos w n h ∙ simp (lt-ltb _ _ h)
-
-  -- those of the upper half, from the last of all on, `last`
-  module _ (n last : ℕ) (top : last ≡ 2 ^ hbits w + 2 ^ hbits w - 1) (h : 2 ^ hbits w ≤ n) (m : n ≤ last) where
-    pub signed_high : negsuc 0 -ℤ to_z w (last - n) ≡ signed (2 ^ hbits w) n
-    signed_high = rw (to_z_pos w (last - n) (omega (arith, pow_pos (hbits w))), minus, le-ltb n (2 ^ hbits w) h, top)
-
-    pub signed-fits : SFits w (negsuc 0 -ℤ to_z w (last - n))
-    signed-fits = rw (to_z_pos w (last - n) (omega (arith, pow_pos (hbits w))), minus) (record { sfits = omega (arith, pow_pos (hbits w)) })
+  pub part_copied : (copied : List ℕ) → copied ≡ take (at + size - at) (drop at s) → le (take 8 (copied ++ drop size (replicate 8 0))) ≡ le_at size s at
+  part_copied copied e =
+      let p : copied ≡ take size (drop at s) = rw add-sub_cancel_left at e in
+      let l : length (take size (drop at s)) ≡ size = length_part s at size h in
+      rw (drop-replicate {X = ℕ} size 8 0, p, le-take-fill, take_all 8 (take size (drop at s)) (omega arith))

@@ -1,169 +1,125 @@
 -- The pool over the section's bytes, and the section as its part of the file.
 use mathlib.Core.Path.{◌≡◌, refl, sym, ap, subst, ◌∙◌}
+use mathlib.Core.Bool.{Bool, true, false, cond}
 use mathlib.Core.List.{List, map}
-use Prim.Native.Nat.{ℕ, ◌+◌, ◌-◌, ◌≤◌, ◌<◌, min}
-use native.Mathlib.Nat.{add-sub_cancel_left}
+use Prim.Native.Nat.{ℕ, ◌+◌, ◌≤◌}
 use native.Mathlib.Omega.{arith}
-use lib.ListN.{length, take, drop, length-map}
+use lib.Dec.{eqb}
+use lib.ListN.{length, drop, length-map}
+use Rattle.std.specs.Prelude.{Result, Ok, Err, Option, Some, None, IfOk, IfSome}
 use Rattle.reading.specs.Fault.{Fault}
-use Rattle.reading.specs.Reader.{Read, fault, got, next, give, number, many}
-use Rattle.reading.specs.Tables.{table_from}
+use Rattle.reading.specs.Reader.{Read, fault, got, Reader}
 use Rattle.reading.specs.Answer.{Got, refused, found, ◌>>=◌, item_of}
-use Rattle.reading.specs.Places.{Next, step_of}
+use Rattle.reading.specs.Places.{Next, ends, entry, next_of, step_of}
 use Rattle.reading.specs.declared.Table.{Table}
-use Rattle.reading.proofs.Le.{Bytes}
 use Rattle.reading.proofs.Parts.{length_part}
-use Rattle.reading.proofs.Local.{local-number}
-use Rattle.reading.proofs.Left.{left-all, left-taken}
-use Rattle.reading.proofs.Tables.{counted-few}
+use Rattle.reading.proofs.Left.{left-all}
 use Rattle.reading.proofs.From.{first_of, from-lookup, from_first}
 use Rattle.format.specs.Faults.{invalid_constant_index}
-use Rattle.format.specs.Parts.{Place, cut, by_bytes, by_place}
-use Rattle.format.specs.Constants.{Constant, on_constant, constants}
-use Rattle.format.proofs.Places.{placed-alone}
-use Rattle.format.proofs.Answers.{same-found, steps, refused-then, found-then, item-got}
-use Rattle.format.proofs.Keeping.{Alike, stops, gives, Same, same-many, same-constants}
-use Rattle.base.specs.Section.{part_in, part_from, PartWithin, section_part}
-use Rattle.base.specs.declared.section.Part.{Part}
-use Rattle.base.specs.declared.section.PartAnswer.{PartAnswer}
-use Rattle.base.specs.declared.section.PartAnswer.TheVariants as part
+use Rattle.format.specs.Parts.{Place, cut, Keep, by_bytes, by_place}
+use Rattle.format.specs.Constants.{Constant, on_constant, constant, constants}
+use Rattle.format.specs.Lookups.{read_at}
+use Rattle.format.proofs.Answers.{never, same-found, refused-then, found-then}
+use Rattle.format.proofs.Keeping.{Alike, stops, gives, same-constants}
+use Rattle.format.proofs.Leaves.{stays-constant}
+use Rattle.base.specs.Answers.{next_from}
+use Rattle.base.specs.Section.{opened, section_part, section_cut, step_in}
+use Rattle.base.specs.declared.error.ContainerError.{ContainerError}
 use Rattle.base.proofs.Sections.{section-found}
-use Rattle.constant_pool.specs.Entry.{head_size, entry_type}
-use Rattle.constant_pool.specs.Lookups.{place_of, constant_over, pool_count, pool_from, constant_in, pool_at, start_at}
-use Rattle.constant_pool.specs.Answers.{KeptEnds, ConstEnds, NextEnds}
-use Rattle.constant_pool.specs.declared.Kept.{Kept}
-use Rattle.constant_pool.specs.declared.Kept.TheVariants as kept
-use Rattle.constant_pool.specs.declared.ConstAnswer.{ConstAnswer}
-use Rattle.constant_pool.specs.declared.ConstAnswer.TheVariants as answer
-use Rattle.constant_pool.specs.declared.ConstNext.{ConstNext}
-use Rattle.constant_pool.specs.declared.ConstNext.TheVariants as next
-use Rattle.constant_pool.proofs.Entries as entry
-use Rattle.constant_pool.proofs.Entries.{stays-constant, EntryAt, entry_at}
-
--- Read for its types only or with what is kept of them, a section has its constants at the same places
-
-module _ (base : ℕ) (s : List ℕ) where
-  alike : Same s (λ c. c.kind) entry_type (constant_over base s)
-  alike x w = rw w.is (go w.behind (entry_at base s w.behind))
-    where
-      go : (at : ℕ) → EntryAt base s at → Alike s (λ c. c.kind) (entry_type (drop at s)) (constant_over base s (drop at s))
-      go at (entry.stops f a b) = rw (a, b) (stops f)
-      go at (entry.gives kind size l a b) = rw (a, b) (gives _ _ (record { behind = at + head_size + size; most = l; is = refl }))
-
-  module _ (k : ℕ) where
-    abbrev found_at : ℕ → ℕ → Table
-    found_at n behind = record { at = length s - behind; count = n - k }
-
-    others : (n behind : ℕ) {x : Read (List ℕ)} {y : Read (List (Constant Place))} → Alike s (map (λ c. c.kind)) x y
-        → next x (λ cs. give (found_at n behind)) ≡ next y (λ cs. give (found_at n behind))
-    others n behind (stops f) = refl
-    others n behind (gives cs t w) = refl
-
-    passed : (n : ℕ) {x : Read (List ℕ)} {y : Read (List (Constant Place))} → Alike s (map (λ c. c.kind)) x y
-        → next x (λ cs. λ z. next (many (n - k) entry_type z) (λ ds. give (found_at n (length z))))
-        ≡ next y (λ cs. λ z. next (many (n - k) (constant_over base s) z) (λ ds. give (found_at n (length z))))
-    passed n (stops f) = refl
-    passed n (gives cs t w) = others n (length t) (same-many s (λ c. c.kind) entry_type (constant_over base s) (n - k) alike t w)
-
-    pub from-alike : table_from (length s) k entry_type s ≡ table_from (length s) k (constant_over base s) s
-    unfolding table_from
-    from-alike = go (number 2 s) refl
-      where
-        go : (x : Read ℕ) → number 2 s ≡ x
-            → next x (λ n. λ y. next (many (min k n) entry_type y) (λ cs. λ z. next (many (n - k) entry_type z) (λ ds. give (found_at n (length z)))))
-            ≡ next x (λ n. λ y. next (many (min k n) (constant_over base s) y) (λ cs. λ z. next (many (n - k) (constant_over base s) z) (λ ds. give (found_at n (length z)))))
-        go (fault f) e = refl
-        go (got n t) e = passed n (same-many s (λ c. c.kind) entry_type (constant_over base s) (min k n) alike t (left-taken s s n t (left-all s) ((local-number 2).taken s n t e)))
-
--- where the constants stand
-pub start_is : (base : ℕ) (s : List ℕ) → pool_from s 0 ≡ (item_of (constants (by_place (place_of base s)) s) >>= λ cs. found (record { at = 2; count = length cs }))
-unfolding constants
-start_is base s = ap item_of (from-alike base s 0) ∙ from_first (constant_over base s) s
+use Rattle.base.proofs.FileLookups.{lookup_ok, walk_ok}
+use Rattle.constant_pool.specs.Lookups.{pool_count, pool_from, constant_in}
+use Rattle.constant_pool.specs.Answers.{const_in, KeptEnds}
+use Rattle.constant_pool.specs.declared.ConstEntry.{ConstEntry}
+use Rattle.constant_pool.proofs.Entries.{StringEnds, constant-ends, kept-ends}
 
 -- Strings by their bytes or by their places: the same refusals, and as many constants
 
 module _ (s : List ℕ) where
-  count-on : {x : Read (List (Constant (List ℕ)))} {y : Read (List (Constant Place))} → Alike s (map (on_constant (cut s))) x y
+  count-on : {T U : Type 0} {h : U → T} {x : Read (List (Constant T))} {y : Read (List (Constant U))} → Alike s (map (on_constant h)) x y
       → (item_of x >>= λ cs. found (length cs)) ≡ (item_of y >>= λ cs. found (length cs))
   count-on (stops f) = refl
   count-on (gives cs t w) = ap found (length-map cs _)
 
-  count-either : pool_count s ≡ (item_of (constants (by_place (place_of 0 s)) s) >>= λ cs. found (length cs))
-  count-either = count-on (same-constants s by_bytes (by_place (place_of 0 s)) (cut s) (placed-alone s) s (left-all s))
+  -- nothing of a string is kept
+  nothing : Keep (Unit {0})
+  nothing b behind = tt
 
-  -- a section whose constants stand at `t`
-  pub count-refused : (f : Fault) → refused f ≡ pool_from s 0 → refused f ≡ pool_count s
-  count-refused f e = refused-then (item_of (constants (by_place (place_of 0 s)) s)) (λ cs. record { at = 2; count = length cs }) (λ cs. found (length cs)) f (e ∙ start_is 0 s) ∙ sym count-either
+  as-many : {T : Type 0} (keep : Keep T) → (item_of (constants nothing s) >>= λ cs. found (length cs)) ≡ (item_of (constants keep s) >>= λ cs. found (length cs))
+  as-many keep = count-on (same-constants s nothing keep (λ t. tt) (λ k n i. refl) s (left-all s))
 
-  pub count-found : (t : Table) → found t ≡ pool_from s 0 → found t.count ≡ pool_count s
-  count-found t e = found-then (item_of (constants (by_place (place_of 0 s)) s)) (λ cs. record { at = 2; count = length cs }) (λ u. u.count) t (e ∙ start_is 0 s) ∙ sym count-either
+  module _ (p : Place) where
+    pub count-either : pool_count s ≡ (item_of (constants (by_place p) s) >>= λ cs. found (length cs))
+    count-either = sym (as-many by_bytes) ∙ as-many (by_place p)
 
-  -- in a list of bytes the count is below 2 ^ 16
-  pub count-few : (t : Table) → Bytes s → found t ≡ pool_from s 0 → t.count < 65536
-  unfolding constants
-  count-few t b e =
-      let k = steps (item_of (constants (by_place (place_of 0 s)) s)) (sym (e ∙ start_is 0 s)) in
-      let g = item-got (constants (by_place (place_of 0 s)) s) k.item k.first in
-      omega (arith, ap (λ (u : Table). u.count) (same-found k.second), counted-few (constant_over 0 s) s k.item g.0 b g.1)
+    -- where the constants stand
+    pub start_is : pool_from p s 0 ≡ (item_of (constants (by_place p) s) >>= λ cs. found (record { at = 2; count = length cs }))
+    unfolding constants
+    start_is = from_first (constant (by_place p)) s
 
--- a lookup in the section, by the first step from its index on
-module _ (base : ℕ) (s : List ℕ) (index : ℕ) where
-  abbrev first_in : Table → Got (Constant Place)
-  first_in t = first_of (invalid_constant_index index) (step_of (constant_over base s) s t)
+    pub count-refused : (f : Fault) → refused f ≡ pool_from p s 0 → refused f ≡ pool_count s
+    count-refused f e = refused-then (item_of (constants (by_place p) s)) (λ cs. record { at = 2; count = length cs }) (λ cs. found (length cs)) f (e ∙ start_is) ∙ sym count-either
 
-  find-as : (pool_from s index >>= first_in) ≡ constant_in base s index
-  unfolding constants
-  find-as =
-      ap (λ x. item_of x >>= first_in) (from-alike base s index)
-      ∙ from-lookup (constant_over base s) index s (stays-constant s (by_place (place_of base s))) (invalid_constant_index index)
+    pub count-found : (t : Table) → found t ≡ pool_from p s 0 → found t.count ≡ pool_count s
+    count-found t e = found-then (item_of (constants (by_place p) s)) (λ cs. record { at = 2; count = length cs }) (λ u. u.count) t (e ∙ start_is) ∙ sym count-either
 
-  pub find-refused : (f : Fault) → refused f ≡ pool_from s index → refused f ≡ constant_in base s index
-  find-refused f e = ap (λ x. x >>= first_in) e ∙ find-as
+    -- a lookup, by the first step from its index on
+    module _ (index : ℕ) where
+      abbrev first_in : Table → Got (Constant Place)
+      first_in t = first_of (invalid_constant_index index) (step_of (constant (by_place p)) s t)
 
-  pub find-by : (t : Table) → found t ≡ pool_from s index → {v x : Next (Constant Place)} → v ≡ x → v ≡ step_of (constant_over base s) s t
-      → first_of (invalid_constant_index index) x ≡ constant_in base s index
-  find-by t e d g = ap (first_of (invalid_constant_index index)) (sym d ∙ g) ∙ ap (λ x. x >>= first_in) e ∙ find-as
+      find-as : (pool_from p s index >>= first_in) ≡ constant_in p s index
+      unfolding constants
+      find-as = from-lookup (constant (by_place p)) index s (stays-constant s (by_place p)) (invalid_constant_index index)
 
--- the section handed on as its part `q` of the file
-abbrev handed : List ℕ → Part → List ℕ
-handed f q = take (q.offset + q.size - q.offset) (drop q.offset f)
+      pub find-refused : (f : Fault) → refused f ≡ pool_from p s index → refused f ≡ constant_in p s index
+      find-refused f e = ap (λ x. x >>= first_in) e ∙ find-as
 
-pub record Handed (f : List ℕ) (p : Place) (q : Part) : Type 0 where
-  pub is : found (part_in q) ≡ section_part f p
-  pub within : q.offset + q.size ≤ length f
-  pub size : length (handed f q) ≡ q.size
+      pub find-by : (t : Table) → found t ≡ pool_from p s index → (x : Next (Constant Place)) → x ≡ step_of (constant (by_place p)) s t
+          → first_of (invalid_constant_index index) x ≡ constant_in p s index
+      find-by t e x g = ap (first_of (invalid_constant_index index)) g ∙ ap (λ x. x >>= first_in) e ∙ find-as
 
-pub handed-by : (f : List ℕ) (p : Place) (q : Part) {r : PartAnswer} → r ≡ part.Part q → (part_from r ≡ section_part f p) × PartWithin f r → Handed f p q
-handed-by f p q e h =
-    let w = subst (PartWithin f) e h.1 in
-    record { is = sym (ap part_from e) ∙ h.0; within = w; size = rw add-sub_cancel_left (length_part f q.offset q.size w) }
+-- a string that a step gives ends in the section, and so in the file
+module _ (p : Place) (s : List ℕ) (m : length s ≤ p.offset + p.size) (most : ℕ) (l : p.offset + p.size ≤ most) (t : Table) where
+  pub step-ends : (c : ConstEntry) (u : Table) → entry (const_in c) u ≡ step_of (constant (by_place p)) s t → KeptEnds most c.kept
+  unfolding step_of
+  step-ends c u e = go (eqb t.count 0) (constant (by_place p) (drop t.at s)) refl e
+    where
+      go : (z : Bool) (x : Read (Constant Place)) → constant (by_place p) (drop t.at s) ≡ x → entry (const_in c) u ≡ cond z ends (next_of s t x) → KeptEnds most c.kept
+      go true x d e = absurd (let z : ◌≡◌ {A = ℕ} 0 1 = cc in omega arith)
+      go false (fault f) d e = absurd (let z : ◌≡◌ {A = ℕ} 0 1 = cc in omega arith)
+      go false (got a rest) d e =
+          let z : a ≡ const_in c = cc in
+          kept-ends (p.offset + p.size) most l c.kept (subst (λ (v : Constant Place). StringEnds (p.offset + p.size) v.kept) z (constant-ends p s m t.at a rest d))
 
-module _ (f : List ℕ) (p : Place) (q : Part) (h : Handed f p q) where
-  pub handed-same : part_in q ≡ p
-  handed-same = (section-found f p (constants by_bytes) (part_in q) h.is).same
+  pub next-ends : (r : Result (Option (ConstEntry × Table)) ContainerError) → next_from const_in r ≡ step_of (constant (by_place p)) s t → IfOk r (λ o. IfSome o (λ x. KeptEnds most x.0.kept))
+  next-ends (Err e) h = tt
+  next-ends (Ok None) h = tt
+  next-ends (Ok (Some x)) h = step-ends x.0 x.1 h
 
-  pub handed-as : {B : Type 0} (of : List ℕ → Place → B) → of (handed f q) (place_of q.offset (handed f q)) ≡ of (cut f p) p
-  handed-as of =
-      let place : place_of q.offset (handed f q) ≡ p = ap (λ (n : ℕ). record { offset = q.offset; size = n }) h.size ∙ handed-same in
-      let bytes : handed f q ≡ cut f p = rw add-sub_cancel_left (ap (cut f) handed-same) in
-      ap (of (handed f q)) place ∙ ap (λ s. of s p) bytes
+-- the section's part of the file
+module _ (f : List ℕ) (p : Place) (c : Place × List ℕ) (e : found c ≡ section_cut f p) where
+  pub record Opened : Type 0 where
+    pub same : c.0 ≡ p
+    pub size : length c.1 ≡ p.size
+    pub within : p.offset + p.size ≤ length f
 
-  pub handed-pool : item_of (constants (by_place (place_of q.offset (handed f q))) (handed f q)) ≡ pool_at f p
-  handed-pool = handed-as (λ s p. item_of (constants (by_place p) s)) ∙ sym (section-found f p (constants (by_place p)) (part_in q) h.is).reads
+  pub is-opened : Opened
+  is-opened = go (section_part f p) refl e
+    where
+      go : (x : Got Place) → section_part f p ≡ x → found c ≡ (x >>= λ q. found (opened f q)) → Opened
+      go (refused d) i h = never (sym h)
+      go (found q) i h =
+          let g = section-found f p (constants by_bytes) q (sym i) in
+          let z : c ≡ opened f q = same-found h in
+          record {
+            same = ap (λ (y : Place × List ℕ). y.0) z ∙ g.same;
+            size = ap (λ (y : Place × List ℕ). length y.1) z ∙ ap (λ (y : Place). length (cut f y)) g.same ∙ length_part f p.offset p.size g.inside.within;
+            within = g.inside.within;
+          }
 
-  pub handed-start : pool_from (handed f q) 0 ≡ start_at f p
-  handed-start = start_is q.offset (handed f q) ∙ ap (λ x. x >>= λ cs. found (record { at = 2; count = length cs })) handed-pool
+  -- a lookup, and a step of a walk, whose reader depends on the section's place
+  pub lookup_placed : {A B : Type 0} (r : Place → Reader A) (go : A → Got B) (x : Got B) → x ≡ (item_of (r c.0 c.1) >>= go) → x ≡ (read_at f p (r p) >>= go)
+  lookup_placed r go x k = lookup_ok f p (r p) go c x e (k ∙ ap (λ (q : Place). item_of (r q c.1) >>= go) is-opened.same)
 
--- what ends at a place or before it also ends at a later place or before it
-kept-ends : (m n : ℕ) → m ≤ n → (k : Kept) → KeptEnds m k → KeptEnds n k
-kept-ends m n l (kept.Number v) h = tt
-kept-ends m n l (kept.Part p) h = omega arith
-
-pub const-ends : (m n : ℕ) → m ≤ n → (r : ConstAnswer) → ConstEnds m r → ConstEnds n r
-const-ends m n l (answer.Refused e) h = tt
-const-ends m n l (answer.Entry c) h = kept-ends m n l c.kept h
-
-pub next-ends : (m n : ℕ) → m ≤ n → (r : ConstNext) → NextEnds m r → NextEnds n r
-next-ends m n l next.End h = tt
-next-ends m n l (next.Refused e) h = tt
-next-ends m n l (next.Entry c t) h = kept-ends m n l c.kept h
+  pub walk_placed : {A : Type 0} (r : Place → Reader A) (t : Table) (x : Next A) → x ≡ step_of (r c.0) c.1 t → x ≡ step_in f p (r p) t
+  walk_placed r t x k = walk_ok f p (r p) t c x e (k ∙ ap (λ (q : Place). step_of (r q) c.1 t) is-opened.same)

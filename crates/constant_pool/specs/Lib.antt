@@ -1,4 +1,3 @@
-pub mod Entry
 pub mod Picks
 pub mod Lookups
 pub mod Answers

@@ -1,6 +1,5 @@
--- What the section's reader, its lookups and its walks answer: over the section's bytes `s`, and over a file and the section's place `p` in it.
+-- What the section's reader, its lookups and its walks answer: over the section's bytes `s`, and over a file; `p` is the section's place in it.
 use Rattle.std.specs.Prelude.{ℕ, ◌+◌, ◌-◌, List, ℤ, length}
-use Rattle.reading.specs.Reader.{Reader}
 use Rattle.reading.specs.Answer.{Got, found, ◌>>=◌, item_of}
 use Rattle.reading.specs.Places.{Next}
 use Rattle.reading.specs.Tables.{table_from}
@@ -9,7 +8,6 @@ use Rattle.format.specs.Parts.{Place, part, by_bytes, by_place}
 use Rattle.format.specs.Constants.{Kept, Constant, kept_of, constant, constants}
 use Rattle.format.specs.Lookups.{read_at, constant_of}
 use Rattle.base.specs.Section.{step_in}
-use Rattle.constant_pool.specs.Entry.{entry_type}
 use Rattle.constant_pool.specs.Picks.{i32_of, u32_of, i64_of, u64_of, f32_of, f64_of, string_place_of, width_of}
 
 -- Over the section's bytes
@@ -18,24 +16,17 @@ use Rattle.constant_pool.specs.Picks.{i32_of, u32_of, i64_of, u64_of, f32_of, f6
 abbrev pub pool_count : List ℕ → Got ℕ
 pool_count s = item_of (constants by_bytes s) >>= λ cs. found (length cs)
 
--- the place of a section that starts at `base` of the file and has the bytes `s`
-abbrev pub place_of : ℕ → List ℕ → Place
-place_of base s = record { offset = base; size = length s }
-
-abbrev pub constant_over : ℕ → List ℕ → Reader (Constant Place)
-constant_over base s = constant (by_place (place_of base s))
-
 -- what is kept of the `size` bytes at `at`
-abbrev pub kept_over : ℕ → List ℕ → ℕ → ℕ → ℕ → Kept Place
-kept_over base s kind at size = kept_of (by_place (place_of base s)) kind (part at size s) (length s - (at + size))
+abbrev pub kept_over : Place → List ℕ → ℕ → ℕ → ℕ → Kept Place
+kept_over p s kind at size = kept_of (by_place p) kind (part at size s) (length s - (at + size))
 
 -- where the constants from index `k` on stand, if the whole section reads
-abbrev pub pool_from : List ℕ → ℕ → Got Table
-pool_from s k = item_of (table_from (length s) k entry_type s)
+abbrev pub pool_from : Place → List ℕ → ℕ → Got Table
+pool_from p s k = item_of (table_from (length s) k (constant (by_place p)) s)
 
 -- the constant at an index
-abbrev pub constant_in : ℕ → List ℕ → ℕ → Got (Constant Place)
-constant_in base s i = item_of (constants (by_place (place_of base s)) s) >>= constant_of i
+abbrev pub constant_in : Place → List ℕ → ℕ → Got (Constant Place)
+constant_in p s i = item_of (constants (by_place p) s) >>= constant_of i
 
 -- Over a file and the section's place in it
 

@@ -1,22 +1,17 @@
 -- What a getter picks from the answer of a lookup, whichever way the constant was found: the lookup's refusal; else the constant's number, string or
 -- character width; 9 with the constant's type if that is another than asked (document 01: "other type than asked; checked after 11").
-use Rattle.std.specs.Prelude.{ℕ, cond, List, eqb, ℤ}
-use Rattle.reading.specs.Answer.{Got, refused, found, ◌>>=◌}
-use Rattle.format.specs.Faults.{invalid_constant_type}
+use Rattle.std.specs.Prelude.{ℕ, ℤ}
+use Rattle.reading.specs.Answer.{Got, found, ◌>>=◌}
 use Rattle.format.specs.Parts.{Place}
-use Rattle.format.specs.Constants.{Kept, number, string, Constant, as_number, signed, as_string, char_width}
-
--- the eight kept bytes of a constant of type `kind`
-abbrev pub bytes_in : ℕ → ℕ → Kept Place → Got (List ℕ)
-bytes_in kind stored (number b) = cond (eqb stored kind) (found b) (refused (invalid_constant_type stored))
-bytes_in kind stored (string t) = refused (invalid_constant_type stored)
-
-abbrev pub kept_bytes : ℕ → Got (Constant Place) → Got (List ℕ)
-kept_bytes kind x = x >>= λ c. bytes_in kind c.kind c.kept
+use Rattle.format.specs.Constants.{Constant, as_number, signed, as_string, char_width}
 
 -- the number in the first `width` kept bytes of a constant of type `kind`
 abbrev pub number_picked : ℕ → ℕ → Got (Constant Place) → Got ℕ
 number_picked kind width x = x >>= as_number kind width
+
+-- what `sense` makes of it
+abbrev pub value_picked : {V : Type 0} → (ℕ → V) → ℕ → ℕ → Got (Constant Place) → Got V
+value_picked sense kind width x = number_picked kind width x >>= λ n. found (sense n)
 
 -- types 0 to 5: I32, U32, I64, U64, F32 and F64, in four or eight bytes; "floats come as bits"
 abbrev pub i32_of : Got (Constant Place) → Got ℤ

@@ -23,16 +23,40 @@ use Rattle.format.proofs.Answers.{never, same-found}
 use Rattle.format.proofs.Places.{length_cut, inside_is}
 use Rattle.format.proofs.DebugStates.{debug-states, section-decides}
 use Rattle.format.proofs.Loads.{debug-read}
-use Rattle.base.specs.Section.{section_part}
-use Rattle.base.proofs.FileLookups.{sliced, slice_is}
+use Rattle.base.specs.Section.{section_part, opened, section_cut}
 use Rattle.blake3.specs.Blake3.{blake3}
 use Rattle.integrity.proofs.Laws.{laws}
 use Rattle.type_section.specs.Lookups.{type_counts_of_section}
 use Rattle.integrity.specs.Hashes.{debug_fits}
+use Rattle.container.specs.Answers.{debug_state_in}
+use Rattle.container.specs.declared.DebugState as states
+use Rattle.container.specs.declared.DebugState.TheVariants as state
 use Rattle.container.specs.Sections.{type_counts_at, type_counts_of, section_state, debug_state_of, in_force_at}
 
 abbrev counted : TypeTables → Got TypeCounts
 counted t = found (record { fb_types = length t.fb_types; arrays = length t.arrays; user_fbs = length t.user_fbs })
+
+-- What a section's bytes say of its place
+module _ (f : List ℕ) (p : Place) where
+  pub cut_err : (e : Fault) → refused e ≡ section_cut f p → refused e ≡ section_part f p
+  cut_err e h = go (section_part f p) h
+    where
+      go : (x : Got Place) → refused e ≡ (x >>= λ q. found (opened f q)) → refused e ≡ x
+      go (refused d) h = let z : e ≡ d = cc in ap refused z
+      go (found q) h = never h
+
+  pub record OfPart (c : Place × List ℕ) : Type 0 where
+    pub part : found c.0 ≡ section_part f p
+    pub bytes : c.1 ≡ cut f c.0
+
+  pub cut_ok : (c : Place × List ℕ) → found c ≡ section_cut f p → OfPart c
+  cut_ok c h = go (section_part f p) refl h
+    where
+      go : (x : Got Place) → section_part f p ≡ x → found c ≡ (x >>= λ q. found (opened f q)) → OfPart c
+      go (refused d) i h = never (sym h)
+      go (found q) i h =
+          let z : c ≡ opened f q = same-found h in
+          record { part = ap (λ (y : Place × List ℕ). found y.0) z ∙ sym i; bytes = ap (λ (y : Place × List ℕ). y.1) z ∙ sym (ap (λ (y : Place × List ℕ). cut f y.0) z) }
 
 -- a section has a part only of a file within the limit
 part-within : (f : List ℕ) (p : Place) {q : Place} → found q ≡ section_part f p → length f ≤ limit
@@ -45,29 +69,29 @@ part-within f p {q} h = go (leb (length f) limit) refl h
 
 -- the part of a file within the limit that a section is, or none
 module _ (f : List ℕ) (p : Place) (l : length f ≤ limit) where
-  pub part-outside : {e : Fault} → refused e ≡ section_part f p → is_inside f p ≡ false
+  pub part-outside : (e : Fault) → refused e ≡ section_cut f p → is_inside f p ≡ false
   unfolding section_part
-  part-outside {e} h = go (is_inside f p) (rw (le-leb _ _ l) at h)
+  part-outside e h = go (is_inside f p) (rw (le-leb _ _ l) at (cut_err f p e h))
     where
       go : (z : Bool) → refused e ≡ (need z section_size_mismatch >> found p) → z ≡ false
       go true k = never k
       go false k = refl
 
-  pub record Part (q : Place) : Type 0 where
+  pub record Part (c : Place × List ℕ) : Type 0 where
     pub inside : is_inside f p ≡ true
-    pub bytes : sliced f q ≡ cut f p
+    pub bytes : c.1 ≡ cut f p
 
-  pub part-inside : {q : Place} → found q ≡ section_part f p → Part q
+  pub part-inside : (c : Place × List ℕ) → found c ≡ section_cut f p → Part c
   unfolding section_part
-  part-inside {q} h = go (is_inside f p) refl (rw (le-leb _ _ l) at h)
+  part-inside c h = let o = cut_ok f p c h in go (is_inside f p) refl (rw (le-leb _ _ l) at o.part) o.bytes
     where
-      go : (z : Bool) → is_inside f p ≡ z → found q ≡ (need z section_size_mismatch >> found p) → Part q
-      go true i k = record { inside = i; bytes = slice_is f q ∙ ap (cut f) (same-found k) }
-      go false i k = never (sym k)
+      go : (z : Bool) → is_inside f p ≡ z → found c.0 ≡ (need z section_size_mismatch >> found p) → c.1 ≡ cut f c.0 → Part c
+      go true i k b = record { inside = i; bytes = b ∙ ap (cut f) (same-found k) }
+      go false i k b = never (sym k)
 
   -- types
-  pub types-outside : {e : Fault} → refused e ≡ section_part f p → found none ≡ type_counts_at f p
-  types-outside h = rw (part-outside h)
+  pub types-outside : (e : Fault) → refused e ≡ section_cut f p → found none ≡ type_counts_at f p
+  types-outside e h = rw (part-outside e h)
 
   some-refused : {e : Fault} (x : Got TypeTables) → refused e ≡ (x >>= counted) → refused e ≡ (x >>= λ t. found (type_counts (some t)))
   some-refused (refused d) k = cc
@@ -77,11 +101,11 @@ module _ (f : List ℕ) (p : Place) (l : length f ≤ limit) where
   some-found (refused d) k = never (sym k)
   some-found (found t) k = ap (λ (c : TypeCounts). found (some c)) (same-found k)
 
-  pub types-refused : {q : Place} {e : Fault} → found q ≡ section_part f p → refused e ≡ type_counts_of_section (sliced f q) → refused e ≡ type_counts_at f p
-  types-refused h k = let s = part-inside h in rw s.inside (some-refused (item_of (type_tables (cut f p))) (rw s.bytes at k))
+  pub types-refused : (c : Place × List ℕ) (e : Fault) → found c ≡ section_cut f p → refused e ≡ type_counts_of_section c.1 → refused e ≡ type_counts_at f p
+  types-refused c e h k = let s = part-inside c h in rw s.inside (some-refused (item_of (type_tables (cut f p))) (rw s.bytes at k))
 
-  pub types-counted : {q : Place} {c : TypeCounts} → found q ≡ section_part f p → found c ≡ type_counts_of_section (sliced f q) → found (some c) ≡ type_counts_at f p
-  types-counted h k = let s = part-inside h in rw s.inside (some-found (item_of (type_tables (cut f p))) (rw s.bytes at k))
+  pub types-counted : (o : Place × List ℕ) (c : TypeCounts) → found o ≡ section_cut f p → found c ≡ type_counts_of_section o.1 → found (some c) ≡ type_counts_at f p
+  types-counted o c h k = let s = part-inside o h in rw s.inside (some-found (item_of (type_tables (cut f p))) (rw s.bytes at k))
 
 -- by their flag and size
 module _ (f : List ℕ) (h : Header) where
@@ -127,6 +151,14 @@ kept-counts hash_differs = refl
 kept-counts (unreadable e) = refl
 kept-counts (read t) = refl
 
+-- a section that was not read keeps nothing
+pub unread : (s : List ℕ) (x : states.DebugState) → ((k : _) → x ≡ state.Read k → ⊥) → none ≡ debug_kept (debug_state_in s x)
+unread s state.Empty h = refl
+unread s state.Outside h = refl
+unread s state.HashDiffers h = refl
+unread s (state.Unreadable e) h = refl
+unread s (state.Read k) h = absurd (h k refl)
+
 -- over any file
 module _ (f : List ℕ) (h : Header) where
   pub debug-empty : h.directory.debug.size ≡ 0 → empty ≡ debug_state_of f h
@@ -137,11 +169,11 @@ module _ (f : List ℕ) (h : Header) where
       go true = refl
       go false = refl
 
-  pub debug-outside : {e : Fault} → (h.directory.debug.size ≡ 0 → ⊥) → refused e ≡ section_part f h.directory.debug → outside ≡ debug_state_of f h
+  pub debug-outside : (e : Fault) → (h.directory.debug.size ≡ 0 → ⊥) → refused e ≡ section_cut f h.directory.debug → outside ≡ debug_state_of f h
   unfolding debug_state_of section_part
-  debug-outside {e} n k =
+  debug-outside e n k =
       let s : 0 < h.directory.debug.size = omega arith in
-      rw (lt-ltb 0 h.directory.debug.size s) (go (leb (length f) limit) (is_inside f h.directory.debug) ((debug-states blake3 f h).not-inside s) k)
+      rw (lt-ltb 0 h.directory.debug.size s) (go (leb (length f) limit) (is_inside f h.directory.debug) ((debug-states blake3 f h).not-inside s) (cut_err f h.directory.debug e k))
     where
       go : (b i : Bool) → (i ≡ false → debug_state blake3 f h ≡ outside) → refused e ≡ (need b too_long >> need i section_size_mismatch >> found h.directory.debug)
           → outside ≡ cond b (state_counts (debug_state blake3 f h)) outside
@@ -150,13 +182,13 @@ module _ (f : List ℕ) (h : Header) where
       go false i d k = refl
 
   -- `x` is a state, by the section's bytes
-  pub debug-inside : {q : Place} (x : List ℕ → DebugState DebugCounts) → (h.directory.debug.size ≡ 0 → ⊥) → found q ≡ section_part f h.directory.debug
-      → x (sliced f q) ≡ section_state h.debug_hash (sliced f q) → x (cut f h.directory.debug) ≡ debug_state_of f h
+  pub debug-inside : (c : Place × List ℕ) (x : List ℕ → DebugState DebugCounts) → (h.directory.debug.size ≡ 0 → ⊥) → found c ≡ section_cut f h.directory.debug
+      → x c.1 ≡ section_state h.debug_hash c.1 → x (cut f h.directory.debug) ≡ debug_state_of f h
   unfolding debug_state_of
-  debug-inside {q} x n k e =
+  debug-inside c x n k e =
       let p = h.directory.debug in
-      let l = part-within f p k in
-      let s = part-inside f p l k in
+      let l = part-within f p (cut_ok f p c k).part in
+      let s = part-inside f p l c k in
       let a = length_cut f p s.inside in
       let b = (inside_is f p s.inside).within in
       let w : length (cut f p) ≤ hash_limit = omega arith in
@@ -175,19 +207,19 @@ module _ (f : List ℕ) (h : Header) where
 -- The rows of the tables in force
 
 module _ (f : List ℕ) (p : Place) where
-  pub rows-nowhere : {A : Type 0} {e : Fault} (counts : A) → refused e ≡ section_part f p → none_in_force ≡ in_force_at f p (some counts)
+  pub rows-nowhere : {A : Type 0} (e : Fault) (counts : A) → refused e ≡ section_cut f p → none_in_force ≡ in_force_at f p (some counts)
   unfolding section_part
-  rows-nowhere {A} {e} counts h = go (leb (length f) limit) (is_inside f p) h
+  rows-nowhere {A} e counts h = go (leb (length f) limit) (is_inside f p) (cut_err f p e h)
     where
       go : (b i : Bool) → refused e ≡ (need b too_long >> need i section_size_mismatch >> found p) → none_in_force ≡ cond (b && i) (in_force_in (cut f p)) none_in_force
       go true true k = never k
       go true false k = refl
       go false i k = refl
 
-  pub rows-there : {A : Type 0} {q : Place} {rows : InForce} (counts : A) → found q ≡ section_part f p → rows ≡ in_force_in (sliced f q) → rows ≡ in_force_at f p (some counts)
-  rows-there counts h e =
-      let l = part-within f p h in
-      let s = part-inside f p l h in
+  pub rows-there : {A : Type 0} (c : Place × List ℕ) {rows : InForce} (counts : A) → found c ≡ section_cut f p → rows ≡ in_force_in c.1 → rows ≡ in_force_at f p (some counts)
+  rows-there c counts h e =
+      let l = part-within f p (cut_ok f p c h).part in
+      let s = part-inside f p l c h in
       e ∙ ap in_force_in s.bytes ∙ sym (rw (le-leb _ _ l, s.inside))
 
 -- of the section that was loaded

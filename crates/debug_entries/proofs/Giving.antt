@@ -23,12 +23,13 @@ use Rattle.format.specs.Parts.{Place}
 use Rattle.format.specs.Debug.{text, name, path, variable, function_name, source_file, Enumeration, enumeration}
 use Rattle.format.proofs.Readers.{local-string_layout}
 use Rattle.debug_text.specs.Answers.{keep_in}
-use Rattle.debug_text.specs.Picked.{picked}
+use Rattle.base.specs.Picked.{picked}
 use Rattle.debug_text.proofs.Texts.{name-ends}
-use Rattle.debug_text.proofs.Walks.{picked-is}
 use Rattle.debug_entries.specs.Answers.{entry_of}
 use Rattle.debug_entries.specs.Laws.{Lies, Walkable, VariableLies, FunctionLies, FileLies, EnumerationLies, Laws}
+use Rattle.debug_entries.proofs.Entries.{entries_way}
 use Rattle.debug_entries.proofs.Places as places
+use Rattle.base.proofs.Picked.{picked_is}
 
 module _ (whole : List ℕ) where
   record Gives {A : Type 0} (P : A → Type 0) (r : Reader A) : Type 0 where
@@ -170,7 +171,7 @@ module _ (whole : List ℕ) where
     walkable =
         record {
           walk = λ t. walk-is-table whole r (record { leaves = λ x a y w e. (h.leaves x a y w e).1 }) t.count t refl;
-          lookup = λ t k xs rest e. picked-is r whole t.at t.count k xs rest e;
+          lookup = λ t k xs rest e. picked_is r whole t.at t.count k xs rest e;
           found-is = picked-in;
           step_is = step-in;
         }
@@ -188,4 +189,5 @@ laws =
       strings = λ s. walkable s _ _ (gives_local s local-string_layout);
       files = λ base s. walkable s _ _ (gives-file s base);
       enumerations = λ base s. walkable s _ _ (gives-enumeration s base);
+      enumerations-passed = λ base s n at. entries_way base (keep_in base s) s n at;
     }

@@ -1,9 +1,9 @@
 -- The claims on every table of the section `s` at `base`: a walk over it, step by step, gives what reading it gives; where it reads, a lookup in it
 -- is indexing into its entries; and the names and paths that a lookup or a step gives lie in the section. A bad text is told by its place.
 use Rattle.std.specs.Prelude.{ℕ, ◌+◌, ◌≤◌, ◌≡◌, List, length}
-use Rattle.reading.specs.Reader.{Reader, got}
+use Rattle.reading.specs.Reader.{Reader, got, many}
 use Rattle.reading.specs.Answer.{found, item_of, indexed}
-use Rattle.reading.specs.Places.{stops, step_at, left_of, Holds, entry, step_of, walked}
+use Rattle.reading.specs.Places.{stops, step_at, way_at, left_of, Holds, entry, step_of, walked}
 use Rattle.reading.specs.declared.Table.{Table}
 use Rattle.format.specs.Faults.{no_entry}
 use Rattle.format.specs.Parts.{Place}
@@ -11,7 +11,7 @@ use Rattle.format.specs.Debug.{name, Variable, variable, FunctionName, function_
 use Rattle.requests.specs.BadPlace.{BadText}
 use Rattle.debug_text.specs.Answers.{keep_in, debug_fault_of}
 use Rattle.debug_text.specs.declared.DebugFault.TheVariants as debug_fault
-use Rattle.debug_text.specs.Picked.{picked}
+use Rattle.base.specs.Picked.{picked}
 use Rattle.debug_entries.specs.Answers.{entry_of, enumeration_entry}
 
 -- a part of the file that lies in the section
@@ -57,3 +57,5 @@ pub record Laws : Type 0 where
   pub strings : (s : List ℕ) → Walkable (λ l. Unit {0}) string_layout s
   pub files : (base : ℕ) (s : List ℕ) → Walkable (FileLies base s) (source_file (keep_in base s)) s
   pub enumerations : (base : ℕ) (s : List ℕ) → Walkable (EnumerationLies base s) (enumeration (keep_in base s)) s
+  -- the code's entries of enumerations are passed over as the enumerations are
+  pub enumerations-passed : (base : ℕ) (s : List ℕ) (n at : ℕ) → way_at (many n (enumeration_entry base (keep_in base s))) s at ≡ way_at (many n (enumeration (keep_in base s))) s at

@@ -4,7 +4,7 @@ use Rattle.reading.specs.Answer.{Got, ◌>>=◌, indexed}
 use Rattle.format.specs.Faults.{no_entry}
 use Rattle.format.specs.Parts.{Keep}
 use Rattle.format.specs.Debug.{enumeration}
-use Rattle.debug_text.specs.Picked.{picked}
+use Rattle.base.specs.Picked.{picked}
 
 -- the name of the value `j` of the enumeration at the index `k`
 abbrev pub picked_value : {T : Type 0} → Keep T → List ℕ → ℕ → ℕ → ℕ → ℕ → Got T

@@ -1,16 +1,16 @@
 // Function names: id 2, name.
-ghost use Rattle.std.specs.Prelude.{◌≡◌, ◌≤◌, length};
-ghost use Rattle.reading.specs.Reader.{many};
-ghost use Rattle.reading.specs.Places.{step_at, way_at, step_of};
-ghost use Rattle.format.specs.Debug.{function_name};
-ghost use Rattle.debug_text.specs.Answers.{InFile, keep_in, way_of};
-ghost use Rattle.debug_text.specs.Picked.{picked};
-ghost use Rattle.debug_entries.specs.Answers.{function_name_step, function_name_found, function_name_walk};
+ghost use Rattle.format.specs.Parts.{Place, by_place};
+ghost use Rattle.format.specs.Debug.{FunctionName, function_name};
+ghost use Rattle.format.proofs.Leaves.{stays-function};
+ghost use Rattle.debug_text.specs.Answers.{debug_fault_of};
+ghost use Rattle.debug_entries.specs.Answers.{function_name_in};
 
+use base::cut::Cut;
+use base::entry::Entry;
 use base::id_types::FunctionId;
 use base::section::Part;
-use debug_text::{DebugFault, DebugWalk, TextStep, read_name};
-use reading::{Table, u16_at};
+use debug_text::{DebugFault, Name};
+use reading::u16_at;
 
 // The size of the id in front of a function's name.
 const FUNCTION_ID_SIZE: usize = 2;
@@ -21,109 +21,32 @@ pub struct FunctionNameEntry {
     pub name: Part,
 }
 
-// An entry, and the place after it.
-#[derive(Clone, Copy)]
-pub enum FunctionNameStep {
-    Fault(DebugFault),
-    Entry(FunctionNameEntry, usize),
-}
+impl Entry for FunctionNameEntry {
+    type Error = DebugFault;
 
-// The entry that a lookup finds; `NoEntry` if the table has none at the index.
-#[derive(Clone, Copy)]
-pub enum FunctionNameFound {
-    Fault(DebugFault),
-    NoEntry,
-    Entry(FunctionNameEntry),
-}
+    ghost Kept = { FunctionName Place };
 
-// One step of a walk.
-#[derive(Clone, Copy)]
-pub enum FunctionNameWalk {
-    End,
-    Fault(DebugFault),
-    Entry(FunctionNameEntry, Table),
-}
+    ghost kept = { function_name_in };
 
-// The entry at `at`.
-pub fn read_function_name(s: &[u8], base: usize, at: usize) -> FunctionNameStep
-    requires { (at ≤ length s.now) × InFile base s.now }
-    ensures { function_name_step s.now result ≡ step_at (function_name (keep_in base s.now)) s.now at }
-{
-    if s.len() - at < FUNCTION_ID_SIZE {
-        return FunctionNameStep::Fault(DebugFault::Short);
-    }
-    let function_id = FunctionId(u16_at(s, at));
-    match read_name(s, base, at + FUNCTION_ID_SIZE) {
-        TextStep::Fault(e) => FunctionNameStep::Fault(e),
-        TextStep::Text(name, m) => FunctionNameStep::Entry(
-            FunctionNameEntry { function_id, name },
-            m,
-        ),
-    }
-}
+    ghost told = { debug_fault_of };
 
-// Skips the `n` entries from `at` on.
-pub fn skip_function_names(s: &[u8], base: usize, at: usize, n: usize) -> DebugWalk
-    requires { (at ≤ length s.now) × InFile base s.now }
-    ensures { way_of s.now result ≡ way_at (many n (function_name (keep_in base s.now))) s.now at }
-{
-    let mut p = at;
-    let mut i = 0;
-    while i < n {
-        match read_function_name(s, base, p) {
-            FunctionNameStep::Fault(e) => {
-                return DebugWalk::Fault(e);
-            }
-            FunctionNameStep::Entry(_, m) => {
-                p = m;
-                i += 1;
-            }
+    ghost reader = { λ p. function_name (by_place p) };
+
+    ghost stays = { λ p s. stays-function (by_place p) s };
+
+    #[tactic(auto, using(crate::proofs::Entries::func_short, crate::proofs::Entries::func_err, crate::proofs::Entries::func_read))]
+    fn read(cut: Cut, at: usize) -> Result<(Self, usize), DebugFault> {
+        if cut.left(at) < FUNCTION_ID_SIZE {
+            return Err(DebugFault::Short);
         }
-    }
-    DebugWalk::At(p)
-}
-
-// The entry with index `k` among the `n` entries from `at` on.
-pub fn find_function_name(s: &[u8], base: usize, at: usize, n: usize, k: usize) -> FunctionNameFound
-    requires { InFile base s.now }
-    ensures { function_name_found s.now result ≡ picked (function_name (keep_in base s.now)) s.now at n k }
-{
-    if n <= k {
-        return FunctionNameFound::NoEntry;
-    }
-    if s.len() < at {
-        return FunctionNameFound::Fault(DebugFault::Short);
-    }
-    match skip_function_names(s, base, at, k) {
-        DebugWalk::Fault(e) => FunctionNameFound::Fault(e),
-        DebugWalk::At(p) => match read_function_name(s, base, p) {
-            FunctionNameStep::Fault(e) => FunctionNameFound::Fault(e),
-            FunctionNameStep::Entry(x, _) => FunctionNameFound::Entry(x),
-        },
-    }
-}
-
-// The next entry of a walk.
-pub fn next_function_name_in(s: &[u8], base: usize, t: Table) -> FunctionNameWalk
-    requires { InFile base s.now }
-    ensures { function_name_walk s.now result ≡ step_of (function_name (keep_in base s.now)) s.now t }
-{
-    let at = t.at;
-    let count = t.count;
-    if count == 0 {
-        return FunctionNameWalk::End;
-    }
-    if s.len() < at {
-        return FunctionNameWalk::Fault(DebugFault::Short);
-    }
-    match read_function_name(s, base, at) {
-        FunctionNameStep::Fault(e) => FunctionNameWalk::Fault(e),
-        FunctionNameStep::Entry(x, m) => FunctionNameWalk::Entry(
-            x,
-            Table {
-                at: m,
-                count: count - 1,
+        let function_id = FunctionId(u16_at(cut.bytes, at));
+        let (name, end) = Name::read(cut, at + FUNCTION_ID_SIZE)?;
+        Ok((
+            FunctionNameEntry {
+                function_id,
+                name: name.0,
             },
-        ),
+            end,
+        ))
     }
 }

@@ -1,5 +1,4 @@
-// The entries of the debug section's tables other than lines. `s` is the section and `base` its place in the file; names and paths are answered as
-// parts of the file.
+// The entries of the debug section's tables other than lines. Names and paths are answered as parts of the file.
 #![tactic(auto)]
 
 ghost use Rattle.debug_entries.specs.Laws.{Laws};

@@ -1,4 +1,5 @@
 // The sections in which variables are declared.
+// Kept: the new form is no plainer. Document 01 refuses no number here, so an entry keeps any byte, which callers compare with these.
 pub const VAR: u8 = 0;
 
 pub const VAR_TEMP: u8 = 1;

@@ -1,16 +1,16 @@
 // Variables: index 2, function 2, section 1, type 1, name, type name.
-ghost use Rattle.std.specs.Prelude.{◌≡◌, ◌≤◌, length};
-ghost use Rattle.reading.specs.Reader.{many};
-ghost use Rattle.reading.specs.Places.{step_at, way_at, step_of};
-ghost use Rattle.format.specs.Debug.{variable};
-ghost use Rattle.debug_text.specs.Answers.{InFile, keep_in, way_of};
-ghost use Rattle.debug_text.specs.Picked.{picked};
-ghost use Rattle.debug_entries.specs.Answers.{variable_step, variable_found, variable_walk};
+ghost use Rattle.format.specs.Parts.{Place, by_place};
+ghost use Rattle.format.specs.Debug.{Variable, variable};
+ghost use Rattle.format.proofs.Leaves.{stays-variable};
+ghost use Rattle.debug_text.specs.Answers.{debug_fault_of};
+ghost use Rattle.debug_entries.specs.Answers.{variable_in};
 
+use base::cut::Cut;
+use base::entry::Entry;
 use base::id_types::{FunctionId, VarIndex};
 use base::section::Part;
-use debug_text::{DebugFault, DebugWalk, TextStep, read_name};
-use reading::{Table, u8_at, u16_at};
+use debug_text::{DebugFault, Name};
+use reading::{u8_at, u16_at};
 
 // The size of a variable's numbers, which stand in front of its names.
 const VARIABLE_NUMBERS_SIZE: usize = 6;
@@ -25,122 +25,38 @@ pub struct VariableEntry {
     pub type_name: Part,
 }
 
-// An entry, and the place after it.
-#[derive(Clone, Copy)]
-pub enum VariableStep {
-    Fault(DebugFault),
-    Entry(VariableEntry, usize),
-}
+impl Entry for VariableEntry {
+    type Error = DebugFault;
 
-// The entry that a lookup finds; `NoEntry` if the table has none at the index.
-#[derive(Clone, Copy)]
-pub enum VariableFound {
-    Fault(DebugFault),
-    NoEntry,
-    Entry(VariableEntry),
-}
+    ghost Kept = { Variable Place };
 
-// One step of a walk.
-#[derive(Clone, Copy)]
-pub enum VariableWalk {
-    End,
-    Fault(DebugFault),
-    Entry(VariableEntry, Table),
-}
+    ghost kept = { variable_in };
 
-// The entry at `at`.
-pub fn read_variable(s: &[u8], base: usize, at: usize) -> VariableStep
-    requires { (at ≤ length s.now) × InFile base s.now }
-    ensures { variable_step s.now result ≡ step_at (variable (keep_in base s.now)) s.now at }
-{
-    if s.len() - at < VARIABLE_NUMBERS_SIZE {
-        return VariableStep::Fault(DebugFault::Short);
-    }
-    let var_index = VarIndex(u16_at(s, at));
-    let function_id = FunctionId(u16_at(s, at + 2));
-    let var_section = u8_at(s, at + 4);
-    let iec_type_tag = u8_at(s, at + 5);
-    match read_name(s, base, at + VARIABLE_NUMBERS_SIZE) {
-        TextStep::Fault(e) => VariableStep::Fault(e),
-        TextStep::Text(n, p) => match read_name(s, base, p) {
-            TextStep::Fault(e) => VariableStep::Fault(e),
-            TextStep::Text(t, m) => VariableStep::Entry(
-                VariableEntry {
-                    var_index,
-                    function_id,
-                    var_section,
-                    iec_type_tag,
-                    name: n,
-                    type_name: t,
-                },
-                m,
-            ),
-        },
-    }
-}
+    ghost told = { debug_fault_of };
 
-// Skips the `n` entries from `at` on.
-pub fn skip_variables(s: &[u8], base: usize, at: usize, n: usize) -> DebugWalk
-    requires { (at ≤ length s.now) × InFile base s.now }
-    ensures { way_of s.now result ≡ way_at (many n (variable (keep_in base s.now))) s.now at }
-{
-    let mut p = at;
-    let mut i = 0;
-    while i < n {
-        match read_variable(s, base, p) {
-            VariableStep::Fault(e) => {
-                return DebugWalk::Fault(e);
-            }
-            VariableStep::Entry(_, m) => {
-                p = m;
-                i += 1;
-            }
+    ghost reader = { λ p. variable (by_place p) };
+
+    ghost stays = { λ p s. stays-variable (by_place p) s };
+
+    #[tactic(auto, using(crate::proofs::Entries::var_short, crate::proofs::Entries::var_err, crate::proofs::Entries::var_type, crate::proofs::Entries::var_read))]
+    fn read(cut: Cut, at: usize) -> Result<(Self, usize), DebugFault> {
+        if cut.left(at) < VARIABLE_NUMBERS_SIZE {
+            return Err(DebugFault::Short);
         }
-    }
-    DebugWalk::At(p)
-}
-
-// The entry with index `k` among the `n` entries from `at` on.
-pub fn find_variable(s: &[u8], base: usize, at: usize, n: usize, k: usize) -> VariableFound
-    requires { InFile base s.now }
-    ensures { variable_found s.now result ≡ picked (variable (keep_in base s.now)) s.now at n k }
-{
-    if n <= k {
-        return VariableFound::NoEntry;
-    }
-    if s.len() < at {
-        return VariableFound::Fault(DebugFault::Short);
-    }
-    match skip_variables(s, base, at, k) {
-        DebugWalk::Fault(e) => VariableFound::Fault(e),
-        DebugWalk::At(p) => match read_variable(s, base, p) {
-            VariableStep::Fault(e) => VariableFound::Fault(e),
-            VariableStep::Entry(x, _) => VariableFound::Entry(x),
-        },
-    }
-}
-
-// The next entry of a walk.
-pub fn next_variable_in(s: &[u8], base: usize, t: Table) -> VariableWalk
-    requires { InFile base s.now }
-    ensures { variable_walk s.now result ≡ step_of (variable (keep_in base s.now)) s.now t }
-{
-    let at = t.at;
-    let count = t.count;
-    if count == 0 {
-        return VariableWalk::End;
-    }
-    if s.len() < at {
-        return VariableWalk::Fault(DebugFault::Short);
-    }
-    match read_variable(s, base, at) {
-        VariableStep::Fault(e) => VariableWalk::Fault(e),
-        VariableStep::Entry(x, m) => VariableWalk::Entry(
-            x,
-            Table {
-                at: m,
-                count: count - 1,
-            },
-        ),
+        let var_index = VarIndex(u16_at(cut.bytes, at));
+        let function_id = FunctionId(u16_at(cut.bytes, at + 2));
+        let var_section = u8_at(cut.bytes, at + 4);
+        let iec_type_tag = u8_at(cut.bytes, at + 5);
+        let (name, behind) = Name::read(cut, at + VARIABLE_NUMBERS_SIZE)?;
+        let (type_name, end) = Name::read(cut, behind)?;
+        let entry = VariableEntry {
+            var_index,
+            function_id,
+            var_section,
+            iec_type_tag,
+            name: name.0,
+            type_name: type_name.0,
+        };
+        Ok((entry, end))
     }
 }

@@ -10,7 +10,7 @@ use borrow.Author.Tests.{le-leb, lt-leb}
 use Rattle.reading.specs.Fault.{Fault}
 use Rattle.reading.specs.Answer.{Got, refused, found, ◌>>=◌, ◌>>◌, need, item_of}
 use Rattle.format.specs.Faults.{too_long, section_size_mismatch, no_debug}
-use Rattle.format.specs.Parts.{limit, Place, cut, is_inside, Inside, Keep, by_place}
+use Rattle.format.specs.Parts.{limit, Place, cut, is_inside, Inside, by_place}
 use Rattle.format.specs.Debug.{Tables, debug_tables}
 use Rattle.format.specs.Integrity.{section_in}
 use Rattle.format.specs.Load.{read_in}
@@ -18,32 +18,31 @@ use Rattle.format.specs.Lookups.{or_no_debug, debug_at}
 use Rattle.format.proofs.Answers.{never, same-found}
 use Rattle.format.proofs.Places.{inside_is, is-inside, length_cut}
 use Rattle.requests.specs.BadPlace.{bad_place, bad_place_at}
-use Rattle.base.specs.Section.{section_part}
-use Rattle.base.proofs.FileLookups.{sliced, slice_is}
+use Rattle.base.specs.Section.{section_part, opened}
 use Rattle.debug_text.specs.Answers.{keep_in}
 use Rattle.debug_tables.specs.Starts.{debug_starts}
 use Rattle.debug_tables.specs.Laws.{Standing}
-use Rattle.debug_tables.specs.declared.DebugTables.{DebugTables}
+use Rattle.debug_tables.specs.SixTags.{DebugTables}
 use Rattle.debug_tables.proofs.Standing as standing
-use Rattle.debug_section.specs.Lookups.{debug_tables_at, debug_part, starts_at}
+use Rattle.debug_section.specs.Lookups.{debug_tables_at, debug_part, debug_cut, opened_at, starts_at}
 
 module _ (f : List ℕ) (p : Place) where
   -- the section's part of the file
-  pub part-long : limit < length f → refused too_long ≡ debug_part f p
+  pub part_long : limit < length f → refused too_long ≡ debug_part f p
   unfolding debug_part
-  part-long h = rw (lt-leb (length f) limit h)
+  part_long h = rw (lt-leb (length f) limit h)
 
-  pub part_out : {e : Fault} → length f ≤ limit → refused e ≡ section_part f p → refused no_debug ≡ debug_part f p
+  pub part_out : (e : Fault) → length f ≤ limit → refused e ≡ section_part f p → refused no_debug ≡ debug_part f p
   unfolding debug_part section_part
-  part_out {e} h k = rw (le-leb (length f) limit h) (go (is_inside f p) (rw (le-leb (length f) limit h) at k))
+  part_out e h k = rw (le-leb (length f) limit h) (go (is_inside f p) (rw (le-leb (length f) limit h) at k))
     where
       go : (z : Bool) → refused e ≡ (need z section_size_mismatch >> found p) → refused no_debug ≡ (need z no_debug >> found p)
       go true k = never k
       go false k = refl
 
-  pub part-in : {q : Place} → found q ≡ section_part f p → found q ≡ debug_part f p
+  pub part_in : (q : Place) → found q ≡ section_part f p → found q ≡ debug_part f p
   unfolding debug_part section_part
-  part-in {q} k = go (leb (length f) limit) (is_inside f p) k
+  part_in q k = go (leb (length f) limit) (is_inside f p) k
     where
       go : (y z : Bool) → found q ≡ ((need y too_long >> need z section_size_mismatch) >> found p) → found q ≡ (need y too_long >>= λ u. need z no_debug >> found p)
       go true true k = k
@@ -67,45 +66,88 @@ module _ (f : List ℕ) (p : Place) where
       go true false m i k = never (sym k)
       go false z m i k = never (sym k)
 
-  -- the section's bytes as the code cuts them, and names and paths by their place in the file
-  pub moved : {q : Place} → q ≡ p → Inside f p → (F : Keep Place → List ℕ → Type 0) → F (keep_in q.offset (sliced f q)) (sliced f q) → F (by_place p) (cut f p)
-  moved {q} e i F h =
-      let g = subst (λ (x : List ℕ). F (keep_in q.offset x) x) (slice_is f q) h in
-      let k = subst (λ (x : Place). F (keep_in x.offset (cut f x)) (cut f x)) e g in
-      subst (λ (n : ℕ). F (by_place (record { offset = p.offset; size = n })) (cut f p)) (length_cut f p (is-inside f p i)) k
+  -- names and paths kept by their place in the section's bytes are kept by their place in the file
+  pub kept : Inside f p → keep_in p.offset (cut f p) ≡ by_place p
+  kept i = ap (λ (n : ℕ). by_place (record { offset = p.offset; size = n })) (length_cut f p (is-inside f p i))
+
+  -- the same with its bytes
+  pub cut-refused : {e : Fault} → refused e ≡ debug_cut f p → refused e ≡ debug_part f p
+  cut-refused {e} k = go (debug_part f p) k
+    where
+      go : (x : Got Place) → refused e ≡ (x >>= λ q. found (opened f q)) → refused e ≡ x
+      go (refused d) k = let z : e ≡ d = cc in ap refused z
+      go (found q) k = never k
+
+  pub cut-found : {c : Place × List ℕ} → found c ≡ debug_cut f p → (c ≡ opened f p) × (found p ≡ debug_part f p)
+  cut-found {c} k = go (debug_part f p) refl k
+    where
+      go : (x : Got Place) → debug_part f p ≡ x → found c ≡ (x >>= λ q. found (opened f q)) → (c ≡ opened f p) × (found p ≡ debug_part f p)
+      go (refused d) h k = never (sym k)
+      go (found q) h k = let e = (in-part (sym h)).same in (same-found k ∙ ap (opened f) e, sym (h ∙ ap found e))
+
+  -- with where the tables in force stand in them
+  abbrev Both : Type 0
+  Both = (Place × List ℕ) × DebugTables
+
+  pub opened-refused : {e : Fault} → refused e ≡ opened_at f p → refused e ≡ starts_at f p
+  unfolding starts_at
+  opened-refused {e} k = go (debug_part f p) k
+    where
+      last : (c : Place × List ℕ) (x : Got DebugTables) → ◌≡◌ {A = Got Both} (refused e) (x >>= λ u. found (c, u)) → refused e ≡ x
+      last c (refused d) k = let z : e ≡ d = cc in ap refused z
+      last c (found u) k = never k
+
+      go : (x : Got Place) → ◌≡◌ {A = Got Both} (refused e) ((x >>= λ q. found (opened f q)) >>= λ c. or_no_debug (item_of (debug_starts c.1)) >>= λ u. found (c, u))
+          → refused e ≡ (x >>= λ q. or_no_debug (item_of (debug_starts (cut f q))))
+      go (refused d) k = let z : e ≡ d = cc in ap refused z
+      go (found q) k = last (opened f q) (or_no_debug (item_of (debug_starts (cut f q)))) k
+
+  pub record Opened (c : Place × List ℕ) (u : DebugTables) : Type 0 where
+    pub same : c ≡ opened f p
+    pub inside : Inside f p
+    pub starts : found u ≡ starts_at f p
+
+  pub opened_found : {c : Place × List ℕ} {u : DebugTables} → found (c, u) ≡ opened_at f p → Opened c u
+  unfolding starts_at
+  opened_found {c} {u} k = go (debug_part f p) refl k
+    where
+      last : (b : Place × List ℕ) (x : Got DebugTables) → ◌≡◌ {A = Got Both} (found (c, u)) (x >>= λ v. found (b, v)) → (c ≡ b) × (found u ≡ x)
+      last b (refused d) k = never (sym k)
+      last b (found v) k = let z : ◌≡◌ {A = Both} (c, u) (b, v) = same-found k in (ap (λ (y : Both). y.0) z, ap (λ (y : Both). found y.1) z)
+
+      go : (x : Got Place) → debug_part f p ≡ x → ◌≡◌ {A = Got Both} (found (c, u)) ((x >>= λ q. found (opened f q)) >>= λ c. or_no_debug (item_of (debug_starts c.1)) >>= λ u. found (c, u))
+          → Opened c u
+      go (refused d) h k = never (sym k)
+      go (found q) h k =
+          let g = in-part (sym h) in
+          let l = last (opened f q) (or_no_debug (item_of (debug_starts (cut f q)))) k in
+          record {
+            same = l.0 ∙ ap (opened f) g.same;
+            inside = g.inside;
+            starts = l.1 ∙ sym (ap (λ (x : Got Place). x >>= λ q. or_no_debug (item_of (debug_starts (cut f q)))) h);
+          }
 
   -- where the tables stand
   pub starts-refused : {e : Fault} → refused e ≡ debug_part f p → refused e ≡ starts_at f p
   unfolding starts_at
   starts-refused k = rw (← k)
 
-  module _ {q : Place} (k : found q ≡ debug_part f p) where
-    pub starts-out : {e : Fault} → refused e ≡ item_of (debug_starts (sliced f q)) → refused no_debug ≡ starts_at f p
-    starts-out {e} h =
-        let g = in-part k in
-        ap or_no_debug (moved g.same g.inside (λ keep s. refused e ≡ item_of (debug_starts s)) h) ∙ sym g.starts
-
-    pub starts-in : {u : DebugTables} → found u ≡ item_of (debug_starts (sliced f q)) → found u ≡ starts_at f p
-    starts-in {u} h =
-        let g = in-part k in
-        ap or_no_debug (moved g.same g.inside (λ keep s. found u ≡ item_of (debug_starts s)) h) ∙ sym g.starts
-
   -- the section's bad place
-  pub place_out : {e : Fault} → refused e ≡ debug_part f p → none ≡ bad_place_at f p
+  pub place_err : (e : Fault) → refused e ≡ debug_cut f p → none ≡ bad_place_at f p
   unfolding debug_part bad_place_at
-  place_out {e} k = go (leb (length f) limit) (is_inside f p) k
+  place_err e k = go (leb (length f) limit) (is_inside f p) k
     where
-      go : (y z : Bool) → refused e ≡ (need y too_long >>= λ u. need z no_debug >> found p) → none ≡ cond (y && z) (bad_place (cut f p)) none
+      go : (y z : Bool) → refused e ≡ ((need y too_long >>= λ u. need z no_debug >> found p) >>= λ q. found (opened f q)) → none ≡ cond (y && z) (bad_place (cut f p)) none
       go true true k = never k
       go true false k = refl
       go false z k = refl
 
-  pub place-in : {q : Place} {x : Option ℕ} → found q ≡ debug_part f p → x ≡ bad_place (sliced f q) → x ≡ bad_place_at f p
+  pub place_ok : (c : Place × List ℕ) (x : Option ℕ) → found c ≡ debug_cut f p → x ≡ bad_place c.1 → x ≡ bad_place_at f p
   unfolding debug_part bad_place_at
-  place-in {q} {x} k h = go (leb (length f) limit) (is_inside f p) k
+  place_ok c x k h = go (leb (length f) limit) (is_inside f p) k
     where
-      go : (y z : Bool) → found q ≡ (need y too_long >>= λ u. need z no_debug >> found p) → x ≡ cond (y && z) (bad_place (cut f p)) none
-      go true true k = h ∙ ap bad_place (slice_is f q ∙ ap (cut f) (same-found k))
+      go : (y z : Bool) → found c ≡ ((need y too_long >>= λ u. need z no_debug >> found p) >>= λ q. found (opened f q)) → x ≡ cond (y && z) (bad_place (cut f p)) none
+      go true true k = h ∙ ap (λ (y : Place × List ℕ). bad_place y.1) (same-found k)
       go true false k = never (sym k)
       go false z k = never (sym k)
 

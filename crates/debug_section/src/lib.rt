@@ -4,299 +4,190 @@
 
 ghost use Rattle.std.specs.Prelude.{◌≡◌};
 ghost use Rattle.requests.specs.BadPlace.{bad_place_at};
-ghost use Rattle.base.specs.Section.{place_in, part_from, PartWithin};
-ghost use Rattle.line_map.specs.Answers.{line_from};
+ghost use Rattle.base.specs.Answers.{as_it_is, got_from};
+ghost use Rattle.base.specs.Cut.{cut_in};
+ghost use Rattle.base.specs.Section.{place_in, part_in, PartWithin};
+ghost use Rattle.line_map.specs.Answers.{line_in};
+ghost use Rattle.debug_entries.specs.Answers.{variable_in, function_name_in, string_layout_in, source_file_in, enumeration_in};
 ghost use Rattle.debug_tables.specs.Answers.{bad_place_in};
-ghost use Rattle.debug_section.specs.Lookups.{debug_part, starts_at, answers_at, enumeration_at};
+ghost use Rattle.debug_section.specs.Lookups.{debug_part, debug_cut, opened_at, starts_at, answers_at, enumeration_at};
 ghost use Rattle.debug_section.specs.Laws.{Laws};
-ghost use Rattle.debug_section.specs.Answers.{starts_from, StartsInside, variable_from, function_name_from, layout_from, source_from, enumeration_from, value_from};
+ghost use Rattle.debug_section.specs.Answers.{opened_in, StartsInside, answered};
 
+use base::cut::Cut;
+use base::entry::find;
 use base::error::ContainerError;
 use base::id_types::{FunctionId, SourceFileId};
-use base::section::{FILE_LIMIT, Part, PartAnswer, Section, section_part};
-use debug_entries::enumerations::{EnumerationEntry, EnumerationFound};
-use debug_entries::function_names::{FunctionNameEntry, FunctionNameFound};
-use debug_entries::source_files::{SourceFileEntry, SourceFileFound};
-use debug_entries::string_layouts::{StringLayoutEntry, StringLayoutFound};
-use debug_entries::variables::{VariableEntry, VariableFound};
-use debug_entries::{enumerations, function_names, source_files, string_layouts, variables};
-use debug_tables::{BadPlace, DebugTables, DebugTablesAnswer, read_tables};
-use debug_text::NameFound;
-use line_map::LineAnswer;
-
-// Where the tables in force stand; walks over them start there.
-#[derive(Clone, Copy)]
-pub enum StartsAnswer {
-    Refused(ContainerError),
-    Starts(DebugTables),
-}
-
-#[derive(Clone, Copy)]
-pub enum VariableAnswer {
-    Refused(ContainerError),
-    Entry(VariableEntry),
-}
-
-#[derive(Clone, Copy)]
-pub enum FunctionNameAnswer {
-    Refused(ContainerError),
-    Entry(FunctionNameEntry),
-}
-
-#[derive(Clone, Copy)]
-pub enum StringLayoutAnswer {
-    Refused(ContainerError),
-    Entry(StringLayoutEntry),
-}
-
-#[derive(Clone, Copy)]
-pub enum SourceFileAnswer {
-    Refused(ContainerError),
-    Entry(SourceFileEntry),
-}
-
-#[derive(Clone, Copy)]
-pub enum EnumerationAnswer {
-    Refused(ContainerError),
-    Entry(EnumerationEntry),
-}
-
-#[derive(Clone, Copy)]
-pub enum ValueAnswer {
-    Refused(ContainerError),
-    Name(Part),
-}
+use base::section::{FILE_LIMIT, Part, Section, section_part};
+use debug_entries::enumerations::{EnumerationEntry, find_enumeration_value};
+use debug_entries::function_names::FunctionNameEntry;
+use debug_entries::source_files::SourceFileEntry;
+use debug_entries::string_layouts::StringLayoutEntry;
+use debug_entries::variables::VariableEntry;
+use debug_tables::{DebugTables, tables_of};
+use debug_text::DebugFault;
+use line_map::LineMapEntry;
 
 // The part of the file that the section occupies.
-pub fn debug_part(file: &[u8], section: Section) -> PartAnswer
-    ensures { (part_from result ≡ debug_part file.now (place_in section)) × PartWithin file.now result }
+#[tactic(auto, using(crate::proofs::Parts::part_long, crate::proofs::Parts::part_out, crate::proofs::Parts::part_in))]
+pub fn debug_part(file: &[u8], section: Section) -> Result<Part, ContainerError>
+    ensures { (got_from part_in result ≡ debug_part file.now (place_in section)) × PartWithin file.now result }
 {
     if file.len() > FILE_LIMIT {
-        return PartAnswer::Refused(ContainerError::TooLong);
+        return Err(ContainerError::TooLong);
     }
-    match section_part(file, section) {
-        PartAnswer::Refused(_) => PartAnswer::Refused(ContainerError::NoDebug),
-        PartAnswer::Part(p) => PartAnswer::Part(p),
-    }
+    section_part(file, section).map_err(|_| ContainerError::NoDebug)
+}
+
+// The same with its bytes.
+pub fn debug_cut(file: &[u8], section: Section) -> Result<Cut, ContainerError>
+    ensures { got_from cut_in result ≡ debug_cut file.now (place_in section) }
+{
+    let p = debug_part(file, section)?;
+    Ok(Cut {
+        bytes: &file[p.offset..p.offset + p.size],
+        offset: p.offset,
+    })
+}
+
+// The section's bytes, and where the tables in force stand in them.
+fn opened(file: &[u8], section: Section) -> Result<(Cut, DebugTables), ContainerError>
+    ensures { got_from opened_in result ≡ opened_at file.now (place_in section) }
+{
+    let cut = debug_cut(file, section)?;
+    let tables = tables_of(cut).map_err(|_| ContainerError::NoDebug)?;
+    Ok((cut, tables))
 }
 
 // The tables in force.
-pub fn tables(file: &[u8], section: Section) -> StartsAnswer
-    ensures { (starts_from result ≡ starts_at file.now (place_in section)) × StartsInside file.now (place_in section) result }
+pub fn tables(file: &[u8], section: Section) -> Result<DebugTables, ContainerError>
+    ensures { (got_from as_it_is result ≡ starts_at file.now (place_in section)) × StartsInside file.now (place_in section) result }
 {
-    match debug_part(file, section) {
-        PartAnswer::Refused(e) => StartsAnswer::Refused(e),
-        PartAnswer::Part(p) => {
-            let start = p.offset;
-            let end = start + p.size;
-            match read_tables(&file[start..end]) {
-                DebugTablesAnswer::Fault(_) => StartsAnswer::Refused(ContainerError::NoDebug),
-                DebugTablesAnswer::Tables(t) => StartsAnswer::Starts(t),
-            }
-        }
-    }
+    Ok(opened(file, section)?.1)
 }
 
 // The section's bad place; none over the file's limit, or where the section does not lie in the file behind the header.
-pub fn bad_place(file: &[u8], section: Section) -> BadPlace
+#[tactic(auto, using(crate::proofs::Parts::place_err))]
+pub fn bad_place(file: &[u8], section: Section) -> Option<usize>
     ensures { bad_place_in result ≡ bad_place_at file.now (place_in section) }
 {
-    match debug_part(file, section) {
-        PartAnswer::Refused(_) => BadPlace::None,
-        PartAnswer::Part(p) => {
-            let start = p.offset;
-            let end = start + p.size;
-            debug_tables::bad_place(&file[start..end])
-        }
+    match debug_cut(file, section) {
+        Ok(cut) => debug_tables::bad_place(cut),
+        Err(_) => None,
     }
 }
 
+// What a lookup in a table answers: 15 where the table does not read, 29 where it has no such entry.
+fn answered<T>(found: Result<Option<T>, DebugFault>) -> Result<T, ContainerError>
+    ensures { result ≡ answered found }
+{
+    found
+        .map_err(|_| ContainerError::NoDebug)?
+        .ok_or(ContainerError::NoEntry)
+}
+
 // The source location of a function's bytecode offset: 14 if the lines are not sorted, 13 if there is none.
+#[tactic(auto, using(crate::proofs::Lookups::look_err))]
 pub fn lookup_source_location(
     file: &[u8],
     section: Section,
     function_id: FunctionId,
     bytecode_offset: u16,
-) -> LineAnswer
-    ensures { line_from result ≡ (answers_at file.now (place_in section)).source_line function_id.0 bytecode_offset }
+) -> Result<LineMapEntry, ContainerError>
+    ensures { got_from line_in result ≡ (answers_at file.now (place_in section)).source_line function_id.0 bytecode_offset }
 {
-    match tables(file, section) {
-        StartsAnswer::Refused(e) => LineAnswer::Refused(e),
-        StartsAnswer::Starts(t) => {
-            let start = section.offset as usize;
-            let end = start + section.size as usize;
-            let at = t.lines.at;
-            let count = t.lines.count;
-            line_map::lookup_source_location(
-                &file[start..end],
-                at,
-                count,
-                function_id,
-                bytecode_offset,
-            )
-        }
-    }
+    let (cut, t) = opened(file, section)?;
+    line_map::lookup_source_location(
+        cut.bytes,
+        t.lines.at,
+        t.lines.count,
+        function_id,
+        bytecode_offset,
+    )
 }
 
 // The line at a position of the line map.
-pub fn line(file: &[u8], section: Section, index: u16) -> LineAnswer
-    ensures { line_from result ≡ (answers_at file.now (place_in section)).line index }
+#[tactic(auto, using(crate::proofs::Lookups::look_err))]
+pub fn line(file: &[u8], section: Section, index: u16) -> Result<LineMapEntry, ContainerError>
+    ensures { got_from line_in result ≡ (answers_at file.now (place_in section)).line index }
 {
-    match tables(file, section) {
-        StartsAnswer::Refused(e) => LineAnswer::Refused(e),
-        StartsAnswer::Starts(t) => {
-            let start = section.offset as usize;
-            let end = start + section.size as usize;
-            let at = t.lines.at;
-            let count = t.lines.count;
-            line_map::line(&file[start..end], at, count, index as usize)
-        }
-    }
+    let (cut, t) = opened(file, section)?;
+    line_map::line(cut.bytes, t.lines.at, t.lines.count, index as usize)
 }
 
 // The variable at a position of its table: its index, function, section, type, name and type name.
-pub fn variable(file: &[u8], section: Section, index: u16) -> VariableAnswer
-    ensures { variable_from result ≡ (answers_at file.now (place_in section)).variable index }
+#[tactic(auto, using(crate::proofs::Lookups::look_err))]
+pub fn variable(file: &[u8], section: Section, index: u16) -> Result<VariableEntry, ContainerError>
+    ensures { got_from variable_in result ≡ (answers_at file.now (place_in section)).variable index }
 {
-    match tables(file, section) {
-        StartsAnswer::Refused(e) => VariableAnswer::Refused(e),
-        StartsAnswer::Starts(t) => {
-            let start = section.offset as usize;
-            let end = start + section.size as usize;
-            let at = t.variables.at;
-            let count = t.variables.count;
-            match variables::find_variable(&file[start..end], start, at, count, index as usize) {
-                VariableFound::Fault(_) => VariableAnswer::Refused(ContainerError::NoDebug),
-                VariableFound::NoEntry => VariableAnswer::Refused(ContainerError::NoEntry),
-                VariableFound::Entry(x) => VariableAnswer::Entry(x),
-            }
-        }
-    }
+    let (cut, t) = opened(file, section)?;
+    answered(find(cut, t.variables, index as usize))
 }
 
 // The function name at a position of its table, with the function's id.
-pub fn function_name(file: &[u8], section: Section, index: u16) -> FunctionNameAnswer
-    ensures { function_name_from result ≡ (answers_at file.now (place_in section)).function_name index }
+#[tactic(auto, using(crate::proofs::Lookups::look_err))]
+pub fn function_name(
+    file: &[u8],
+    section: Section,
+    index: u16,
+) -> Result<FunctionNameEntry, ContainerError>
+    ensures { got_from function_name_in result ≡ (answers_at file.now (place_in section)).function_name index }
 {
-    match tables(file, section) {
-        StartsAnswer::Refused(e) => FunctionNameAnswer::Refused(e),
-        StartsAnswer::Starts(t) => {
-            let start = section.offset as usize;
-            let end = start + section.size as usize;
-            let at = t.functions.at;
-            let count = t.functions.count;
-            match function_names::find_function_name(
-                &file[start..end],
-                start,
-                at,
-                count,
-                index as usize,
-            ) {
-                FunctionNameFound::Fault(_) => FunctionNameAnswer::Refused(ContainerError::NoDebug),
-                FunctionNameFound::NoEntry => FunctionNameAnswer::Refused(ContainerError::NoEntry),
-                FunctionNameFound::Entry(x) => FunctionNameAnswer::Entry(x),
-            }
-        }
-    }
+    let (cut, t) = opened(file, section)?;
+    answered(find(cut, t.functions, index as usize))
 }
 
 // The string layout at a position of its table: where a string variable lies in the data region, and how long it may get.
-pub fn string_layout(file: &[u8], section: Section, index: u16) -> StringLayoutAnswer
-    ensures { layout_from result ≡ (answers_at file.now (place_in section)).string_layout index }
+#[tactic(auto, using(crate::proofs::Lookups::look_err))]
+pub fn string_layout(
+    file: &[u8],
+    section: Section,
+    index: u16,
+) -> Result<StringLayoutEntry, ContainerError>
+    ensures { got_from string_layout_in result ≡ (answers_at file.now (place_in section)).string_layout index }
 {
-    match tables(file, section) {
-        StartsAnswer::Refused(e) => StringLayoutAnswer::Refused(e),
-        StartsAnswer::Starts(t) => {
-            let start = section.offset as usize;
-            let end = start + section.size as usize;
-            let at = t.strings.at;
-            let count = t.strings.count;
-            match string_layouts::find_string_layout(&file[start..end], at, count, index as usize) {
-                StringLayoutFound::Fault(_) => StringLayoutAnswer::Refused(ContainerError::NoDebug),
-                StringLayoutFound::NoEntry => StringLayoutAnswer::Refused(ContainerError::NoEntry),
-                StringLayoutFound::Entry(x) => StringLayoutAnswer::Entry(x),
-            }
-        }
-    }
+    let (cut, t) = opened(file, section)?;
+    answered(find(cut, t.strings, index as usize))
 }
 
 // The source file at a position of its table: its path and hash.
-pub fn source_file(file: &[u8], section: Section, file_id: SourceFileId) -> SourceFileAnswer
-    ensures { source_from result ≡ (answers_at file.now (place_in section)).source_file file_id.0 }
+#[tactic(auto, using(crate::proofs::Lookups::look_err))]
+pub fn source_file(
+    file: &[u8],
+    section: Section,
+    file_id: SourceFileId,
+) -> Result<SourceFileEntry, ContainerError>
+    ensures { got_from source_file_in result ≡ (answers_at file.now (place_in section)).source_file file_id.0 }
 {
-    match tables(file, section) {
-        StartsAnswer::Refused(e) => SourceFileAnswer::Refused(e),
-        StartsAnswer::Starts(t) => {
-            let start = section.offset as usize;
-            let end = start + section.size as usize;
-            let at = t.files.at;
-            let count = t.files.count;
-            match source_files::find_source_file(
-                &file[start..end],
-                start,
-                at,
-                count,
-                file_id.0 as usize,
-            ) {
-                SourceFileFound::Fault(_) => SourceFileAnswer::Refused(ContainerError::NoDebug),
-                SourceFileFound::NoEntry => SourceFileAnswer::Refused(ContainerError::NoEntry),
-                SourceFileFound::Entry(x) => SourceFileAnswer::Entry(x),
-            }
-        }
-    }
+    let (cut, t) = opened(file, section)?;
+    answered(find(cut, t.files, file_id.0 as usize))
 }
 
 // The enumeration at a position of its table: its name, and where the names of its values stand in the section.
-pub fn enumeration(file: &[u8], section: Section, index: u16) -> EnumerationAnswer
-    ensures { enumeration_from result ≡ enumeration_at file.now (place_in section) index }
+#[tactic(auto, using(crate::proofs::Lookups::enumeration_err))]
+pub fn enumeration(
+    file: &[u8],
+    section: Section,
+    index: u16,
+) -> Result<EnumerationEntry, ContainerError>
+    ensures { got_from enumeration_in result ≡ enumeration_at file.now (place_in section) index }
 {
-    match tables(file, section) {
-        StartsAnswer::Refused(e) => EnumerationAnswer::Refused(e),
-        StartsAnswer::Starts(t) => {
-            let start = section.offset as usize;
-            let end = start + section.size as usize;
-            let at = t.enumerations.at;
-            let count = t.enumerations.count;
-            match enumerations::find_enumeration(
-                &file[start..end],
-                start,
-                at,
-                count,
-                index as usize,
-            ) {
-                EnumerationFound::Fault(_) => EnumerationAnswer::Refused(ContainerError::NoDebug),
-                EnumerationFound::NoEntry => EnumerationAnswer::Refused(ContainerError::NoEntry),
-                EnumerationFound::Entry(x) => EnumerationAnswer::Entry(x),
-            }
-        }
-    }
+    let (cut, t) = opened(file, section)?;
+    answered(find(cut, t.enumerations, index as usize))
 }
 
 // The name of a value of an enumeration.
-pub fn enumeration_value(file: &[u8], section: Section, index: u16, value: u16) -> ValueAnswer
-    ensures { value_from result ≡ (answers_at file.now (place_in section)).enumeration_value index value }
+#[tactic(auto, using(crate::proofs::Lookups::look_err))]
+pub fn enumeration_value(
+    file: &[u8],
+    section: Section,
+    index: u16,
+    value: u16,
+) -> Result<Part, ContainerError>
+    ensures { got_from part_in result ≡ (answers_at file.now (place_in section)).enumeration_value index value }
 {
-    match tables(file, section) {
-        StartsAnswer::Refused(e) => ValueAnswer::Refused(e),
-        StartsAnswer::Starts(t) => {
-            let start = section.offset as usize;
-            let end = start + section.size as usize;
-            let at = t.enumerations.at;
-            let count = t.enumerations.count;
-            match enumerations::find_enumeration_value(
-                &file[start..end],
-                start,
-                at,
-                count,
-                index as usize,
-                value as usize,
-            ) {
-                NameFound::Fault(_) => ValueAnswer::Refused(ContainerError::NoDebug),
-                NameFound::NoEntry => ValueAnswer::Refused(ContainerError::NoEntry),
-                NameFound::Name(x) => ValueAnswer::Name(x),
-            }
-        }
-    }
+    let (cut, t) = opened(file, section)?;
+    answered(find_enumeration_value(cut, t.enumerations, index as usize, value as usize))
 }
 
 // The claims of `specs/Laws.antt` hold. Empty body: the contract makes the checker prove them.

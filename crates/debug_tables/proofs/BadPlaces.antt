@@ -17,7 +17,7 @@ use Rattle.debug_text.proofs.Places.{left-place}
 use Rattle.debug_text.specs.declared.DebugFault.{DebugFault}
 use Rattle.debug_text.specs.declared.DebugFault.TheVariants as debug_fault
 use Rattle.debug_tables.specs.Starts.{debug_starts}
-use Rattle.debug_tables.specs.declared.DebugTables.{DebugTables}
+use Rattle.debug_tables.specs.SixTags.{DebugTables}
 use Rattle.debug_tables.proofs.Standing as standing
 
 stopped : {A : Type 0} (whole : ℕ) (x : Read A) (f : Fault) → item_of x ≡ refused f → place_read whole x ≡ place_of whole f

@@ -11,17 +11,17 @@ use Rattle.format.specs.Record.{DebugCounts, table_counts}
 use Rattle.debug_tables.specs.Starts.{debug_starts}
 use Rattle.debug_tables.specs.Counts.{counts_read}
 use Rattle.debug_tables.specs.Laws as standing-in
-use Rattle.debug_tables.specs.declared.DebugTables.{DebugTables}
+use Rattle.debug_tables.specs.SixTags.{DebugTables}
 use Rattle.debug_tables.proofs.Standing as standing
 
 abbrev counted : Got (Tables (List ℕ)) → Got DebugCounts
 counted x = x >>= λ t. found (table_counts t)
 
 module _ (s : List ℕ) where
-  pub none-counted : (f : Fault) → refused f ≡ item_of (debug_starts s) → refused f ≡ counts_read s
-  none-counted f e = sym (ap counted (standing.unreadable by_bytes s f (sym e)))
+  pub none_counted : (f : Fault) → refused f ≡ item_of (debug_starts s) → refused f ≡ counts_read s
+  none_counted f e = sym (ap counted (standing.unreadable by_bytes s f (sym e)))
 
-  abbrev pub counts_of : DebugTables → DebugCounts
+  abbrev counts_of : DebugTables → DebugCounts
   counts_of u =
       record {
         lines = u.lines.count;
@@ -44,7 +44,7 @@ module _ (s : List ℕ) where
         holds-count _ s u.enumerations t.enumerations g.enumerations,
       )
 
-  pub some-counted : (u : DebugTables) → found u ≡ item_of (debug_starts s) → found (counts_of u) ≡ counts_read s
-  some-counted u e =
+  pub some_counted : (u : DebugTables) → found u ≡ item_of (debug_starts s) → found (counts_of u) ≡ counts_read s
+  some_counted u e =
       let q = standing.readable by_bytes s u (sym e) in
       ap found (same-counts u q.tables q.stand) ∙ sym (ap counted q.reads)

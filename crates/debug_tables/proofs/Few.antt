@@ -19,7 +19,7 @@ use Rattle.format.proofs.Keeping.{Alike, stops, gives, same_row}
 use Rattle.debug_text.specs.Answers.{keep_in}
 use Rattle.debug_tables.specs.Starts.{nowhere, no_starts, entries_at, aside, payload_start, put_as, debug_starts_of, debug_starts, is_listed, entries_of}
 use Rattle.debug_tables.specs.Laws.{TwoByteCounts, Laws}
-use Rattle.debug_tables.specs.declared.DebugTables.{DebugTables}
+use Rattle.debug_tables.specs.SixTags.{DebugTables}
 use Rattle.debug_tables.proofs.Payloads.{start-listed, stand-listed, other-as}
 use Rattle.debug_tables.proofs.BadPlaces.{placed}
 use Rattle.debug_tables.proofs.Standing as standing

@@ -11,12 +11,14 @@ use Rattle.reading.specs.Fault.{short_input}
 use Rattle.reading.specs.Numbers.{le_at}
 use Rattle.reading.specs.Reader.{fault, got, bytes, many}
 use Rattle.reading.proofs.Reading.{bytes-at, number_at}
-use Rattle.format.specs.Debug.{Row, tag_of, Kind, unknown, kind_of, rows_of}
+use Rattle.format.specs.Debug.{Row, tag_of, Kind, lines, variables, functions, strings, files, enumerations, unknown, kind_of, rows_of}
 use Rattle.format.specs.InForce.{InForce, rows_with, last_of, table_row, in_force_of, none_in_force, in_force_by, in_force_in}
 use Rattle.format.proofs.InForce.{number, of-each, listed, other_tag}
-use Rattle.debug_tables.specs.Answers.{rows_in_force}
+use Rattle.std.specs.Prelude.{Some}
+use Rattle.debug_tables.specs.declared.in_force.TableRow.{TableRow}
+use Rattle.debug_tables.specs.SixTags.{of_kind, with_kind}
+use Rattle.debug_tables.specs.Answers.{table_row_in, RowsInForce, rows_in_force}
 use Rattle.debug_tables.specs.LaterRows.{later_row, put_row, FewReplaced}
-use Rattle.debug_tables.specs.declared.in_force.RowsInForce.{RowsInForce}
 use Rattle.debug_tables.proofs.Rows.{tag_at}
 
 -- One tag: the last of the numbers decides
@@ -172,3 +174,13 @@ module _ (s : List ℕ) where
   pub no_rows : none_in_force ≡ in_force_of (first_rows s 0)
   unfolding rows_with
   no_rows = refl
+
+-- a kind's row, and the others as they were
+pub put_some : (k : Kind) (t v : TableRow) (i : ℕ) (u : RowsInForce) → Some t ≡ of_kind k u → table_row_in v ≡ later_row (table_row_in t) i → rows_in_force (with_kind k v u) ≡ put_row k i (rows_in_force u)
+put_some lines t v i u h e = let z : t ≡ u.lines = cc in rw (e, z)
+put_some variables t v i u h e = let z : t ≡ u.variables = cc in rw (e, z)
+put_some functions t v i u h e = let z : t ≡ u.functions = cc in rw (e, z)
+put_some strings t v i u h e = let z : t ≡ u.strings = cc in rw (e, z)
+put_some files t v i u h e = let z : t ≡ u.files = cc in rw (e, z)
+put_some enumerations t v i u h e = let z : t ≡ u.enumerations = cc in rw (e, z)
+put_some unknown t v i u h e = absurd (let z : ◌≡◌ {A = ℕ} 0 1 = cc in omega arith)

@@ -2,74 +2,96 @@
 use mathlib.Core.Path.{◌≡◌, refl, sym, ap, subst, ◌∙◌}
 use mathlib.Core.Bool.{true, false}
 use mathlib.Core.List.{List, map}
-use Prim.Native.Nat.{ℕ, ◌+◌, ◌-◌, ◌≤◌, ◌<◌}
+use Prim.Native.Nat.{ℕ, ◌+◌, ◌*◌, ◌-◌, ◌≤◌, ◌<◌}
 use native.Mathlib.Omega.{arith}
 use lib.ListN.{length, drop, length-drop}
-use borrow.Author.Tests.{ne_eqb}
 use Rattle.reading.specs.Fault.{Fault, short_input}
 use Rattle.reading.specs.Numbers.{le_at}
 use Rattle.reading.specs.Reader.{Read, fault, got, Reader, next, ◌>>=◌, give, many, u16}
-use Rattle.reading.specs.Places.{item, Reads, Way, stops_by, on_to, Goes}
+use Rattle.reading.specs.Places.{stops as stopped, item, Reads, step_at, stops_by, on_to, way_given, way_at}
 use Rattle.reading.specs.declared.Table.{Table}
-use Rattle.reading.proofs.Reading.{never, both, then-then, bytes-at, bytes-short, number_at, number_short}
+use Rattle.reading.proofs.Reading.{both, then-then, bytes-at, bytes-short, number_at, number_short}
 use Rattle.reading.proofs.Tables.{many-length}
 use Rattle.reading.proofs.Local.{local-give, local-bytes}
-use Rattle.reading.proofs.Left.{Stays, stays-local, stays-bind, stays-many, stays-counted}
-use Rattle.format.specs.Parts.{Keep}
+use Rattle.reading.proofs.Given.{step-at, way-at, goes_at}
+use Rattle.reading.proofs.Made.{made, many-made}
+use Rattle.reading.proofs.Left.{left_at, Stays, stays-local, stays-bind, stays-many, stays-counted}
+use Rattle.format.specs.Parts.{Place, Keep}
 use Rattle.format.specs.Debug.{line, on_variable, variable, on_function_name, function_name, string_layout, on_source_file, source_file, enumeration}
-use Rattle.format.specs.Debug.{Kind, lines, variables, functions, strings, files, enumerations, unknown, kind_of, payload}
+use Rattle.format.specs.Debug.{Kind, lines, variables, functions, strings, files, enumerations, unknown, payload}
 use Rattle.format.specs.Debug.{Payload, of_lines, of_variables, of_functions, of_strings, of_files, of_enumerations, skipped}
 use Rattle.format.proofs.Keeping.{on_enumeration, Alike, stops, gives, Same, same-many, same-variable, same-function_name, same-source_file, same-enumeration}
 use Rattle.format.proofs.Readers.{local-line, local-string_layout}
-use Rattle.debug_entries.proofs.Entries.{stays-variable, stays-function, stays-file, stays-enumeration}
-use Rattle.debug_entries.proofs.Places.{alike-stops, none_kept}
+use Rattle.line_map.proofs.Entries.{lines-read, lines-short}
+use Rattle.debug_entries.specs.Answers.{entry_of, enumeration_entry}
+use Rattle.debug_entries.proofs.Places.{none_kept}
 use Rattle.debug_tables.specs.Starts.{nowhere, behind_count, entries_at, aside, payload_start, is_listed, entries_of}
-use Rattle.debug_tables.specs.Answers.{kind_in}
-use Rattle.debug_tables.specs.declared.TableKind.{TableKind}
+use Rattle.format.proofs.Leaves.{stays-variable, stays-function, stays-file, stays-enumeration}
 
--- a tag that is none of those listed
-pub kind-else : (tag : ℕ) → (tag ≡ 1 → ⊥) → (tag ≡ 2 → ⊥) → (tag ≡ 3 → ⊥) → (tag ≡ 4 → ⊥) → (tag ≡ 6 → ⊥) → (tag ≡ 9 → ⊥) → unknown ≡ kind_of tag
-unfolding kind_of
-kind-else tag a b c d e f = rw (ne_eqb tag 1 a, ne_eqb tag 2 b, ne_eqb tag 3 c, ne_eqb tag 4 d, ne_eqb tag 6 e, ne_eqb tag 9 f)
+abbrev Entries : Type 0
+Entries = Payload (Unit {0})
 
--- the case that a `match` on the kind found
-pub of-kind : (n : ℕ) (s : List ℕ) (at : ℕ) (w : Way) {k v : TableKind} → k ≡ v → Goes (entries_of (kind_in v) n) s at w → Goes (entries_of (kind_in k) n) s at w
-of-kind n s at w e g = subst (λ (x : TableKind). Goes (entries_of (kind_in x) n) s at w) (sym e) g
+-- whatever is kept of names and paths, the same entries are passed over
+way-alike : {A B : Type 0} (s : List ℕ) (m : B → A) (r : Reader A) (q : Reader B) → Same s m r q → (at : ℕ) → way_at q s at ≡ way_at r s at
+unfolding way_at
+way-alike {A} {B} s m r q h at = go (h (drop at s) (left_at s at))
+  where
+    go : {x : Read A} {y : Read B} → Alike s m x y → way_given s y ≡ way_given s x
+    go (stops f) = refl
+    go (gives b t w) = refl
 
--- whatever is kept of names and paths, the same entries are skipped
-alike-gives : {A B : Type 0} (s : List ℕ) (m : B → A) {x : Read A} {y : Read B} (b : B) (t : List ℕ) → Alike s m x y → y ≡ got b t → x ≡ got (m b) t
-alike-gives s m b t (stops d) e = never e
-alike-gives s m b t (gives c u w) e =
-    let y : c ≡ b = cc in
-    let z : u ≡ t = cc in
-    rw (y, z)
+-- and whatever is made of them
+given-made : {A B : Type 0} (make : A → B) (s : List ℕ) (x : Read A) → way_given s x ≡ way_given s (next x (λ a. give (make a)))
+given-made make s (fault f) = refl
+given-made make s (got a t) = refl
 
-goes_same : {A B : Type 0} (s : List ℕ) (m : B → A) (r : Reader A) (q : Reader B) → Same s m r q → (at : ℕ) → at ≤ length s → (w : Way) → Goes q s at w → Goes r s at w
-goes_same s m r q h at l (stops_by f) g = alike-stops s m f (h (drop at s) (record { behind = at; most = l; is = refl })) g
-goes_same s m r q h at l (on_to p) g = (g.0, (m g.1.0, alike-gives s m g.1.0 (drop p s) (h (drop at s) (record { behind = at; most = l; is = refl })) g.1.1))
+way-made : {A B : Type 0} (make : A → B) (r : Reader A) (s : List ℕ) (at : ℕ) → way_at r s at ≡ way_at (r >>= λ a. give (make a)) s at
+unfolding way_at
+way-made make r s at = given-made make s (r (drop at s))
 
-module _ {T : Type 0} (keep : Keep T) (s : List ℕ) (n at : ℕ) (h : at ≤ length s) (w : Way) where
-  aside-goes : {A B : Type 0} (m : B → A) (r : Reader A) (q : Reader B) → Same s m r q → Goes (many n q) s at w → Goes (many n r) s at w
-  aside-goes m r q e g = goes_same s (map m) (many n r) (many n q) (same-many s m r q n e) at h w g
+way-many : {A B : Type 0} (make : A → B) (r : Reader A) (n : ℕ) (s : List ℕ) (at : ℕ) → way_at (many n (made make r)) s at ≡ way_at (many n r) s at
+unfolding way_at
+way-many make r n s at = ap (way_given s) (many-made make r n (drop at s)) ∙ sym (given-made (map make) s (many n r (drop at s)))
 
-  pub variables-aside : Goes (many n (variable keep)) s at w → Goes (many n (variable aside)) s at w
-  variables-aside = aside-goes (on_variable none_kept) (variable aside) (variable keep) (same-variable s aside keep none_kept (λ k m i. refl))
+pub passed_lines : (s : List ℕ) (n at : ℕ) → way_at (many n line) s at ≡ way_at (entries_of lines n) s at
+passed_lines s n at = way-made of_lines (many n line) s at
 
-  pub functions-aside : Goes (many n (function_name keep)) s at w → Goes (many n (function_name aside)) s at w
-  functions-aside = aside-goes (on_function_name none_kept) (function_name aside) (function_name keep) (same-function_name s aside keep none_kept (λ k m i. refl))
+-- lines, which all have one width
+module _ (s : List ℕ) (n at : ℕ) where
+  pub lines_whole : 10 * n ≤ length s - at → at ≤ length s → on_to (at + 10 * n) ≡ way_at (many n line) s at
+  lines_whole h l = way-at (many n line) s at (on_to (at + 10 * n)) (omega arith, lines-read s at n h)
 
-  pub files-aside : Goes (many n (source_file keep)) s at w → Goes (many n (source_file aside)) s at w
-  files-aside = aside-goes (on_source_file none_kept) (source_file aside) (source_file keep) (same-source_file s aside keep none_kept (λ k m i. refl))
+  pub lines_few : length s - at < 10 * n → stops_by short_input ≡ way_at (many n line) s at
+  lines_few h = way-at (many n line) s at (stops_by short_input) (lines-short s at n h)
 
-  pub enumerations-aside : Goes (many n (enumeration keep)) s at w → Goes (many n (enumeration aside)) s at w
-  enumerations-aside = aside-goes (on_enumeration none_kept) (enumeration aside) (enumeration keep) (same-enumeration s aside keep none_kept (λ k m i. refl))
+pub passed_strings : (s : List ℕ) (n at : ℕ) → way_at (many n string_layout) s at ≡ way_at (entries_of strings n) s at
+passed_strings s n at = way-made of_strings (many n string_layout) s at
+
+module _ {T : Type 0} (keep : Keep T) (s : List ℕ) (n at : ℕ) where
+  aside-way : {A B : Type 0} (m : B → A) (make : List A → Entries) (r : Reader A) (q : Reader B) → Same s m r q → way_at (many n q) s at ≡ way_at (many n r >>= λ es. give (make es)) s at
+  aside-way m make r q h = way-alike s (map m) (many n r) (many n q) (same-many s m r q n h) at ∙ way-made make (many n r) s at
+
+  pub passed_variables : way_at (many n (variable keep)) s at ≡ way_at (entries_of variables n) s at
+  passed_variables = aside-way (on_variable none_kept) of_variables (variable aside) (variable keep) (same-variable s aside keep none_kept (λ k m i. refl))
+
+  pub passed_functions : way_at (many n (function_name keep)) s at ≡ way_at (entries_of functions n) s at
+  passed_functions = aside-way (on_function_name none_kept) of_functions (function_name aside) (function_name keep) (same-function_name s aside keep none_kept (λ k m i. refl))
+
+  pub passed_files : way_at (many n (source_file keep)) s at ≡ way_at (entries_of files n) s at
+  passed_files = aside-way (on_source_file none_kept) of_files (source_file aside) (source_file keep) (same-source_file s aside keep none_kept (λ k m i. refl))
+
+pub passed_enumerations : (base : ℕ) (keep : Keep Place) (s : List ℕ) (n at : ℕ) → way_at (many n (enumeration_entry base keep)) s at ≡ way_at (entries_of enumerations n) s at
+passed_enumerations base keep s n at =
+    way-many (entry_of base) (enumeration keep) n s at
+    ∙ aside-way keep s n at (on_enumeration none_kept) of_enumerations (enumeration aside) (enumeration keep) (same-enumeration s aside keep none_kept (λ k m i. refl))
+
+-- a payload that is not listed has none
+pub passed_none : (s : List ℕ) (n at : ℕ) → at ≤ length s → on_to at ≡ way_at (entries_of unknown n) s at
+passed_none s n at l = way-at (entries_of unknown n) s at (on_to at) (l, (skipped, refl))
 
 -- `n` entries, then a `give`
 gave : {A B : Type 0} (r : Reader A) (make : List A → B) (n : ℕ) (y : List ℕ) {x : B} {rest : List ℕ} → next (many n r y) (λ es. give (make es)) ≡ got x rest → (es : List A) × (make es ≡ x) × (length es ≡ n)
 gave r make n y e = let b = both (many n r y) e in (b.item, cc, many-length r n y b.item b.middle b.first)
-
-abbrev Entries : Type 0
-Entries = Payload (Unit {0})
 
 listed-as : (k : Kind) (size : ℕ) (x : List ℕ) → is_listed k ≡ true → payload aside k size x ≡ next (u16 x) (λ n. entries_of k n)
 listed-as lines size x h = then-then (u16 x) _ _
@@ -128,8 +150,10 @@ module _ (k : Kind) (size : ℕ) (s : List ℕ) (at : ℕ) (h : is_listed k ≡ 
   abbrev behind : ℕ → Reader Table
   behind n y = next (entries_of k n y) (λ z. give (entries_at at z))
 
-  pub listed-short : length s - at < 2 → payload_start k size at (drop at s) ≡ fault short_input
-  listed-short l = let d = length-drop at s in start-listed k size at (drop at s) h ∙ ap (λ z. next z behind) (number_short 2 (drop at s) (omega arith))
+  pub listed_short : length s - at < 2 → stopped short_input ≡ step_at (payload_start k size at) s at
+  listed_short l =
+      let d = length-drop at s in
+      step-at (payload_start k size at) s at (stopped short_input) (start-listed k size at (drop at s) h ∙ ap (λ z. next z behind) (number_short 2 (drop at s) (omega arith)))
 
   module _ (n : ℕ) (room : at + 2 ≤ length s) (e : n ≡ le_at 2 s at) where
     listed-reads : payload_start k size at (drop at s) ≡ behind n (drop (at + 2) s)
@@ -138,16 +162,20 @@ module _ (k : Kind) (size : ℕ) (s : List ℕ) (at : ℕ) (h : is_listed k ≡ 
         ∙ ap (λ z. next z behind) (number_at 2 s at (at + 2) refl room)
         ∙ ap (λ (i : ℕ). behind i (drop (at + 2) s)) (sym e)
 
-    pub listed-stop : (f : Fault) → entries_of k n (drop (at + 2) s) ≡ fault f → payload_start k size at (drop at s) ≡ fault f
-    listed-stop f g = listed-reads ∙ ap (λ (z : Read Entries). next z (λ x. give (entries_at at x))) g
+    pub listed_err : (f : Fault) → stops_by f ≡ way_at (entries_of k n) s (at + 2) → stopped f ≡ step_at (payload_start k size at) s at
+    listed_err f e =
+        let g = goes_at (stays-entries s k n) (at + 2) e in
+        step-at (payload_start k size at) s at (stopped f) (listed-reads ∙ ap (λ (z : Read Entries). next z (λ x. give (entries_at at x))) g)
 
-    pub listed-is : (m : ℕ) → Goes (entries_of k n) s (at + 2) (on_to m) → Reads (payload_start k size at) s at (item (behind_count at n) m)
-    listed-is m g = (
-      g.0,
-      listed-reads
-          ∙ ap (λ (z : Read Entries). next z (λ x. give (entries_at at x))) g.1.1
-          ∙ ap (λ (t : Table). got t (drop m s)) (stand-listed k at n (drop (at + 2) s) g.1.0 (drop m s) h g.1.1),
-    )
+    pub listed_ok : (m : ℕ) → on_to m ≡ way_at (entries_of k n) s (at + 2) → item (behind_count at n) m ≡ step_at (payload_start k size at) s at
+    listed_ok m e =
+        let g = goes_at (stays-entries s k n) (at + 2) e in
+        step-at (payload_start k size at) s at (item (behind_count at n) m) (
+          g.0,
+          listed-reads
+              ∙ ap (λ (z : Read Entries). next z (λ x. give (entries_at at x))) g.1.1
+              ∙ ap (λ (t : Table). got t (drop m s)) (stand-listed k at n (drop (at + 2) s) g.1.0 (drop m s) h g.1.1),
+        )
 
 -- any other: as many bytes as its row's size
 pub other-as : (k : Kind) → is_listed k ≡ false → k ≡ unknown
@@ -160,10 +188,12 @@ other-as files h = absurd (let z : ◌≡◌ {A = ℕ} 0 1 = ap (λ b. mathlib.C
 other-as enumerations h = absurd (let z : ◌≡◌ {A = ℕ} 0 1 = ap (λ b. mathlib.Core.Bool.cond b 0 1) h in omega arith)
 
 module _ (k : Kind) (size : ℕ) (s : List ℕ) (at : ℕ) (h : is_listed k ≡ false) where
-  pub other-short : length s - at < size → payload_start k size at (drop at s) ≡ fault short_input
-  other-short l = let d = length-drop at s in rw (other-as k h, bytes-short size (drop at s) (omega arith))
+  pub other_short : length s - at < size → stopped short_input ≡ step_at (payload_start k size at) s at
+  other_short l =
+      let d = length-drop at s in
+      step-at (payload_start k size at) s at (stopped short_input) (rw (other-as k h, bytes-short size (drop at s) (omega arith)))
 
-  pub other-is : at + size ≤ length s → Reads (payload_start k size at) s at (item nowhere (at + size))
-  other-is l =
-      subst (λ (v : Kind). Reads (payload_start v size at) s at (item nowhere (at + size))) (sym (other-as k h))
-      (l, rw (bytes-at size s at (at + size) refl l))
+  pub other_ok : at + size ≤ length s → item nowhere (at + size) ≡ step_at (payload_start k size at) s at
+  other_ok l =
+      step-at (payload_start k size at) s at (item nowhere (at + size))
+      (subst (λ (v : Kind). Reads (payload_start v size at) s at (item nowhere (at + size))) (sym (other-as k h)) (l, rw (bytes-at size s at (at + size) refl l)))

@@ -10,14 +10,16 @@ use Rattle.reading.specs.Fault.{Fault, short_input}
 use Rattle.reading.specs.Numbers.{le, le_at}
 use Rattle.reading.specs.Reader.{Read, fault, got, next, many, bytes}
 use Rattle.reading.specs.Answer.{refused, found, item_of}
-use Rattle.reading.specs.Places.{item, Reads}
+use Rattle.reading.specs.Places.{stops, item, step_at}
 use Rattle.reading.specs.declared.Table.{Table}
+use Rattle.reading.proofs.Given.{reads_at}
 use Rattle.reading.proofs.Parts.{part-of-part}
 use Rattle.reading.proofs.Reading.{both, bytes-at, number_at, number_short}
 use Rattle.reading.proofs.Width.{fixed-bytes, fixed-many}
 use Rattle.format.specs.Debug.{Row, tag_of, size_of, Kind, kind_of, rows_of}
 use Rattle.debug_tables.specs.Starts.{no_starts, payload_start, put_as, debug_starts_of, debug_starts}
-use Rattle.debug_tables.specs.declared.DebugTables.{DebugTables}
+use Rattle.debug_tables.proofs.Payloads.{stays-start}
+use Rattle.debug_tables.specs.SixTags.{DebugTables}
 
 module _ (s : List ℕ) where
   -- a section that is too short for its count or its rows
@@ -40,6 +42,7 @@ module _ (s : List ℕ) where
 
   -- `i` of `n` rows are done, and their payloads up to `p`: the rows that are left, and the tables so far
   pub record RowsDone (n p i : ℕ) (u : DebugTables) : Type 0 where
+    pub within : p ≤ length s
     pub rows : List Row
     pub left : many (n - i) (bytes 8) (drop (2 + 8 * i) s) ≡ got rows (drop (2 + 8 * n) s)
     pub same : debug_starts s ≡ debug_starts_of (length s) rows u (drop p s)
@@ -54,7 +57,7 @@ module _ (s : List ℕ) where
       let l = length-drop 2 s in
       let w = (fixed-many n (fixed-bytes 8)).whole (drop 2 s) (omega arith) in
       let m : many n (bytes 8) (drop 2 s) ≡ got w.0 (drop (2 + 8 * n) s) = w.1 ∙ ap (got w.0) (drop-drop (8 * n) 2 s) in
-      record { rows = w.0; left = rw (sub-zero n) m; same = rows-read n w.0 (drop (2 + 8 * n) s) (omega arith) e m }
+      record { within = h; rows = w.0; left = rw (sub-zero n) m; same = rows-read n w.0 (drop (2 + 8 * n) s) (omega arith) e m }
 
   pub all_done : (n p i : ℕ) (u : DebugTables) → n ≤ i → RowsDone n p i u → found u ≡ item_of (debug_starts s)
   all_done n p i u h g =
@@ -64,8 +67,8 @@ module _ (s : List ℕ) where
       sym (ap item_of (g.same ∙ ap (λ (x : List Row). debug_starts_of (length s) x u (drop p s)) r))
 
   -- a turn: the row at hand is read by its tag and size
-  module _ (n p i : ℕ) (u : DebugTables) (tag size : ℕ) (inside : 2 + 8 * n ≤ length s) (within : p ≤ length s) (h : i < n)
-      (tagged : tag ≡ le_at 2 s (2 + 8 * i)) (sized : size ≡ le_at 4 s (2 + 8 * i + 4)) (k : Kind) (kind : k ≡ kind_of tag) (g : RowsDone n p i u) where
+  module _ (n p i : ℕ) (u : DebugTables) (g : RowsDone n p i u) (inside : 2 + 8 * n ≤ length s) (h : i < n)
+      (tag size : ℕ) (tagged : tag ≡ le_at 2 s (2 + 8 * i)) (sized : size ≡ le_at 4 s (2 + 8 * i + 4)) (k : Kind) (kind : k ≡ kind_of tag) where
     row : Row
     row = take 8 (drop (2 + 8 * i) s)
 
@@ -89,6 +92,7 @@ module _ (s : List ℕ) where
 
     section-is : debug_starts s ≡ next (payload_start k size p (drop p s)) (λ t. debug_starts_of (length s) others.0 (put_as k t u))
     section-is =
+        let within = g.within in
         let d = length-drop p s in
         let z : length s - length (drop p s) ≡ p = omega arith in
         g.same
@@ -97,15 +101,16 @@ module _ (s : List ℕ) where
         ∙ ap (λ (j : Kind). next (payload_start j (size_of row) p (drop p s)) (λ t. debug_starts_of (length s) others.0 (put_as j t u))) row-kind
         ∙ ap (λ (n : ℕ). next (payload_start k n p (drop p s)) (λ t. debug_starts_of (length s) others.0 (put_as k t u))) row-size
 
-    pub row-stops : (f : Fault) → payload_start k size p (drop p s) ≡ fault f → refused f ≡ item_of (debug_starts s)
-    row-stops f e = sym (ap item_of (section-is ∙ ap (λ (x : Read Table). next x (λ t. debug_starts_of (length s) others.0 (put_as k t u))) e))
+    pub row_stops : (f : Fault) → stops f ≡ step_at (payload_start k size p) s p → refused f ≡ item_of (debug_starts s)
+    row_stops f e =
+        sym (ap item_of (section-is ∙ ap (λ (x : Read Table). next x (λ t. debug_starts_of (length s) others.0 (put_as k t u))) (reads_at (stays-start s k size p) p e)))
 
-    pub row_done : (t : Table) (m : ℕ) (v : DebugTables) → Reads (payload_start k size p) s p (item t m) → v ≡ put_as k t u → RowsDone n m (i + 1) v
-    row_done t m v q e =
+    pub row_done : (t : Table) (m : ℕ) → item t m ≡ step_at (payload_start k size p) s p → RowsDone n m (i + 1) (put_as k t u)
+    row_done t m e =
+        let q = reads_at (stays-start s k size p) p e in
         record {
+          within = q.0;
           rows = others.0;
           left = others.2;
-          same = section-is
-              ∙ ap (λ (x : Read Table). next x (λ y. debug_starts_of (length s) others.0 (put_as k y u))) q.1
-              ∙ ap (λ (w : DebugTables). debug_starts_of (length s) others.0 w (drop m s)) (sym e);
+          same = section-is ∙ ap (λ (x : Read Table). next x (λ y. debug_starts_of (length s) others.0 (put_as k y u))) q.1;
         }

@@ -20,7 +20,7 @@ use Rattle.format.proofs.Answers as answers
 use Rattle.format.proofs.Keeping.{on_payload, Alike, stops, gives, same_row}
 use Rattle.debug_tables.specs.Starts.{nowhere, no_starts, behind_count, entries_at, aside, put_as, debug_starts_of, debug_starts}
 use Rattle.debug_tables.specs.Laws.{Standing, DebugReadable}
-use Rattle.debug_tables.specs.declared.DebugTables.{DebugTables}
+use Rattle.debug_tables.specs.SixTags.{DebugTables}
 use Rattle.debug_entries.proofs.Places.{none_kept}
 
 module _ {T : Type 0} (keep : Keep T) (s : List ℕ) where

@@ -3,7 +3,7 @@ use Rattle.std.specs.Prelude.{ℕ, suc, ◌<◌}
 use Rattle.std.proofs.Math.Option.{Option, none, some}
 use Rattle.format.specs.Debug.{Kind, lines, variables, functions, strings, files, enumerations, unknown}
 use Rattle.format.specs.InForce.{TableRow, InForce}
-use Rattle.debug_tables.specs.declared.in_force.RowsInForce.{RowsInForce}
+use Rattle.debug_tables.specs.Answers.{RowsInForce}
 
 -- a later row of a tag replaces the one in force, if there is one, and all that this one replaced
 abbrev pub later_replaced : Option ℕ → ℕ → ℕ

@@ -8,7 +8,7 @@ use Rattle.format.specs.Debug.{line, variable, function_name, string_layout, sou
 use Rattle.requests.specs.BadPlace.{bad_place}
 use Rattle.debug_text.specs.Answers.{keep_in, debug_fault_of, fault_place}
 use Rattle.debug_text.specs.declared.DebugFault.{DebugFault}
-use Rattle.debug_tables.specs.declared.DebugTables.{DebugTables}
+use Rattle.debug_tables.specs.SixTags.{DebugTables}
 use Rattle.debug_tables.specs.Starts.{debug_starts}
 
 -- each table stands in the section `s` where `u` says

@@ -1,3 +1,4 @@
+pub mod SixTags
 pub mod Starts
 pub mod Counts
 pub mod Answers

@@ -7,29 +7,17 @@ use Rattle.format.specs.Parts.{Keep}
 use Rattle.format.specs.Debug.{line, variable, function_name, string_layout, source_file, enumeration, Row, tag_of, size_of, kind_of, payload, rows_of}
 use Rattle.format.specs.Debug.{Kind, lines, variables, functions, strings, files, enumerations, unknown}
 use Rattle.format.specs.Debug.{Payload, of_lines, of_variables, of_functions, of_strings, of_files, of_enumerations, skipped}
-use Rattle.debug_tables.specs.declared.DebugTables.{DebugTables}
+use Rattle.debug_tables.specs.SixTags.{DebugTables, all_tags, with_kind}
 
 abbrev pub nowhere : Table
 nowhere = record { at = 0; count = 0 }
 
 abbrev pub no_starts : DebugTables
-no_starts = record { lines = nowhere; variables = nowhere; functions = nowhere; strings = nowhere; files = nowhere; enumerations = nowhere }
+no_starts = all_tags nowhere
 
 -- The tables with `t` in force as that of its kind (document 01: "A later table of a tag replaces the earlier, even by an empty one")
 abbrev pub put_as : Kind → Table → DebugTables → DebugTables
-put_as lines t u =
-    record { lines = t; variables = u.variables; functions = u.functions; strings = u.strings; files = u.files; enumerations = u.enumerations }
-put_as variables t u =
-    record { lines = u.lines; variables = t; functions = u.functions; strings = u.strings; files = u.files; enumerations = u.enumerations }
-put_as functions t u =
-    record { lines = u.lines; variables = u.variables; functions = t; strings = u.strings; files = u.files; enumerations = u.enumerations }
-put_as strings t u =
-    record { lines = u.lines; variables = u.variables; functions = u.functions; strings = t; files = u.files; enumerations = u.enumerations }
-put_as files t u =
-    record { lines = u.lines; variables = u.variables; functions = u.functions; strings = u.strings; files = t; enumerations = u.enumerations }
-put_as enumerations t u =
-    record { lines = u.lines; variables = u.variables; functions = u.functions; strings = u.strings; files = u.files; enumerations = t }
-put_as unknown t u = u
+put_as kind t u = with_kind kind t u
 
 -- where the entries of a payload at the place `at` stand: after its count; a skipped payload has none
 abbrev pub behind_count : ℕ → ℕ → Table

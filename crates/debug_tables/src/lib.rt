@@ -1,40 +1,32 @@
-// The rows of the debug section `s`, and where its tables in force stand in it. Names and paths are skipped: their place in the file does not matter.
+// The rows of the debug section, and where its tables in force stand in it. Names and paths are passed over: their place in the file does not matter.
 #![tactic(auto)]
 
 pub mod in_force;
 
 ghost use Rattle.std.specs.Prelude.{◌≡◌, ◌≤◌, length};
 ghost use Rattle.reading.specs.Reader.{many};
-ghost use Rattle.reading.specs.Answer.{item_of};
+ghost use Rattle.reading.specs.Answer.{found, item_of};
 ghost use Rattle.reading.specs.Places.{step_at, way_at};
 ghost use Rattle.format.specs.Debug.{line, kind_of};
 ghost use Rattle.requests.specs.BadPlace.{bad_place};
-ghost use Rattle.debug_text.specs.Answers.{way_of};
-ghost use Rattle.debug_tables.specs.Starts.{no_starts, is_listed, entries_of, payload_start, put_as, debug_starts};
+ghost use Rattle.base.specs.Answers.{as_it_is, got_by, step_by, way_by};
+ghost use Rattle.debug_text.specs.Answers.{debug_fault_of};
+ghost use Rattle.debug_tables.specs.SixTags.{all_tags, of_kind, with_kind};
+ghost use Rattle.debug_tables.specs.Starts.{is_listed, entries_of, payload_start, debug_starts};
 ghost use Rattle.debug_tables.specs.Counts.{counts_read};
-ghost use Rattle.debug_tables.specs.Answers.{kind_in, payload_step, debug_tables_from, debug_counts_from, bad_place_in};
-ghost use Rattle.debug_tables.specs.Laws.{Laws};
+ghost use Rattle.debug_tables.specs.Answers.{kind_in, debug_counts_in, bad_place_in};
+ghost use Rattle.debug_tables.specs.Laws.{TwoByteCounts, Laws};
 
-use debug_entries::enumerations::skip_enumerations;
-use debug_entries::function_names::skip_function_names;
-use debug_entries::source_files::skip_source_files;
-use debug_entries::string_layouts::skip_string_layouts;
-use debug_entries::variables::skip_variables;
-use debug_text::{COUNT_SIZE, DebugFault, DebugWalk};
+use base::cut::Cut;
+use base::entry::skip;
+use debug_entries::enumerations::EnumerationEntry;
+use debug_entries::function_names::FunctionNameEntry;
+use debug_entries::source_files::SourceFileEntry;
+use debug_entries::string_layouts::StringLayoutEntry;
+use debug_entries::variables::VariableEntry;
+use debug_text::{COUNT_SIZE, DebugFault};
 use line_map::{LINE_MAP_ENTRY_SIZE, lines_fit};
 use reading::{Table, u16_at, u32_at};
-
-const TAG_LINE_MAP: u16 = 1;
-
-const TAG_VARIABLE: u16 = 2;
-
-const TAG_FUNCTION_NAME: u16 = 3;
-
-const TAG_STRING_LAYOUT: u16 = 4;
-
-const TAG_SOURCE_FILE: u16 = 6;
-
-const TAG_ENUMERATION: u16 = 9;
 
 // The size of a row: tag 2, reserved 2, size 4.
 const DIR_ENTRY_SIZE: usize = 8;
@@ -54,73 +46,92 @@ pub enum TableKind {
     Unknown,
 }
 
+impl From<u16> for TableKind {
+    ghost from_gives = { λ tag kind. kind_in kind ≡ kind_of tag };
+
+    #[tactic(auto, unfolding(format::specs::Debug::kind_of))]
+    fn from(tag: u16) -> TableKind {
+        match tag {
+            1 => TableKind::Lines,
+            2 => TableKind::Variables,
+            3 => TableKind::Functions,
+            4 => TableKind::Strings,
+            6 => TableKind::Files,
+            9 => TableKind::Enumerations,
+            _ => TableKind::Unknown,
+        }
+    }
+}
+
+// Something for each of the six tags that are listed.
+#[derive(Clone, Copy)]
+pub struct SixTags<T> {
+    pub lines: T,
+    pub variables: T,
+    pub functions: T,
+    pub strings: T,
+    pub files: T,
+    pub enumerations: T,
+}
+
 // Where the tables in force stand in the section; a table without a row is empty and at 0.
-#[derive(Clone, Copy)]
-pub struct DebugTables {
-    pub lines: Table,
-    pub variables: Table,
-    pub functions: Table,
-    pub strings: Table,
-    pub files: Table,
-    pub enumerations: Table,
-}
-
-#[derive(Clone, Copy)]
-pub enum DebugTablesAnswer {
-    Fault(DebugFault),
-    Tables(DebugTables),
-}
-
-// The payload of a row: where its entries stand if its tag is listed, and the place after it.
-#[derive(Clone, Copy)]
-enum PayloadStep {
-    Fault(DebugFault),
-    Table(Table, usize),
-}
+pub type DebugTables = SixTags<Table>;
 
 // How many entries the tables in force have.
-#[derive(Clone, Copy)]
-pub struct DebugCounts {
-    pub lines: u16,
-    pub variables: u16,
-    pub functions: u16,
-    pub strings: u16,
-    pub files: u16,
-    pub enumerations: u16,
-}
+pub type DebugCounts = SixTags<u16>;
 
-// What a record holds of them: none where the container loads with no debug.
-#[derive(Clone, Copy)]
-pub enum MaybeDebug {
-    None,
-    Some(DebugCounts),
-}
+impl<T: Copy> SixTags<T> {
+    // The same for each tag.
+    fn all(x: T) -> SixTags<T>
+        ensures { result ≡ all_tags x }
+    {
+        SixTags {
+            lines: x,
+            variables: x,
+            functions: x,
+            strings: x,
+            files: x,
+            enumerations: x,
+        }
+    }
 
-#[derive(Clone, Copy)]
-pub enum DebugCountsAnswer {
-    Fault(DebugFault),
-    Counts(DebugCounts),
-}
+    // That of a kind; none for a tag that is not listed.
+    fn get(self, kind: TableKind) -> Option<T>
+        ensures { result ≡ of_kind (kind_in kind) self }
+    {
+        match kind {
+            TableKind::Lines => Some(self.lines),
+            TableKind::Variables => Some(self.variables),
+            TableKind::Functions => Some(self.functions),
+            TableKind::Strings => Some(self.strings),
+            TableKind::Files => Some(self.files),
+            TableKind::Enumerations => Some(self.enumerations),
+            TableKind::Unknown => None,
+        }
+    }
 
-// Which byte keeps a section from being read: where the first fault in it is a name or a path that lies whole in it and is not UTF-8, the
-// place of its first bad byte, counted from the section's start.
-#[derive(Clone, Copy)]
-pub enum BadPlace {
-    None,
-    At(usize),
-}
-
-fn kind_of(tag: u16) -> TableKind
-    ensures { kind_in result ≡ kind_of tag }
-{
-    match tag {
-        TAG_LINE_MAP => TableKind::Lines,
-        TAG_VARIABLE => TableKind::Variables,
-        TAG_FUNCTION_NAME => TableKind::Functions,
-        TAG_STRING_LAYOUT => TableKind::Strings,
-        TAG_SOURCE_FILE => TableKind::Files,
-        TAG_ENUMERATION => TableKind::Enumerations,
-        _ => TableKind::Unknown,
+    // With `x` as that of a kind; a tag that is not listed changes nothing.
+    fn set(self, kind: TableKind, x: T) -> SixTags<T>
+        ensures { result ≡ with_kind (kind_in kind) x self }
+    {
+        match kind {
+            TableKind::Lines => SixTags { lines: x, ..self },
+            TableKind::Variables => SixTags {
+                variables: x,
+                ..self
+            },
+            TableKind::Functions => SixTags {
+                functions: x,
+                ..self
+            },
+            TableKind::Strings => SixTags { strings: x, ..self },
+            TableKind::Files => SixTags { files: x, ..self },
+            TableKind::Enumerations => SixTags {
+                enumerations: x,
+                ..self
+            },
+            TableKind::Unknown => self,
+        }
     }
 }
 
@@ -129,166 +140,125 @@ fn is_listed(kind: TableKind) -> bool
 {
     match kind {
         TableKind::Unknown => false,
-        TableKind::Lines => true,
-        TableKind::Variables => true,
-        TableKind::Functions => true,
-        TableKind::Strings => true,
-        TableKind::Files => true,
-        TableKind::Enumerations => true,
+        _ => true,
     }
 }
 
-// Skips the `n` lines from `at` on, which all have one width.
-fn skip_lines(s: &[u8], at: usize, n: usize) -> DebugWalk
-    requires { at ≤ length s.now }
-    ensures { way_of s.now result ≡ way_at (many n line) s.now at }
+// Passes over the `n` lines from `at` on, which all have one width.
+#[tactic(auto, using(crate::proofs::Payloads::lines_whole, crate::proofs::Payloads::lines_few))]
+fn skip_lines(cut: Cut, at: usize, n: usize) -> Result<usize, DebugFault>
+    requires { at ≤ length cut.bytes.now }
+    ensures { way_by (debug_fault_of cut.entry.bytes.now) result ≡ way_at (many n line) cut.entry.bytes.now at }
 {
-    if lines_fit(s, at, n) {
-        DebugWalk::At(at + LINE_MAP_ENTRY_SIZE * n)
+    if lines_fit(cut.bytes, at, n) {
+        Ok(at + LINE_MAP_ENTRY_SIZE * n)
     } else {
-        DebugWalk::Fault(DebugFault::Short)
+        Err(DebugFault::Short)
     }
 }
 
-// Skips the `n` entries from `at` on of a table of that kind.
-fn skip_entries(s: &[u8], at: usize, kind: TableKind, n: usize) -> DebugWalk
-    requires { at ≤ length s.now }
-    ensures { way_of s.now result ≡ way_at (entries_of (kind_in kind) n) s.now at }
+// Passes over the `n` entries from `at` on of a table of that kind.
+fn skip_entries(cut: Cut, at: usize, kind: TableKind, n: usize) -> Result<usize, DebugFault>
+    requires { at ≤ length cut.bytes.now }
+    ensures { way_by (debug_fault_of cut.entry.bytes.now) result ≡ way_at (entries_of (kind_in kind) n) cut.entry.bytes.now at }
 {
+    // Kept: each arm is `skip` of another type, so a closure or a table of functions would name the same seven.
     match kind {
-        TableKind::Lines => skip_lines(s, at, n),
-        TableKind::Variables => skip_variables(s, 0, at, n),
-        TableKind::Functions => skip_function_names(s, 0, at, n),
-        TableKind::Strings => skip_string_layouts(s, at, n),
-        TableKind::Files => skip_source_files(s, 0, at, n),
-        TableKind::Enumerations => skip_enumerations(s, 0, at, n),
-        TableKind::Unknown => DebugWalk::At(at),
+        TableKind::Lines => skip_lines(cut, at, n),
+        TableKind::Variables => skip::<VariableEntry>(cut, at, n),
+        TableKind::Functions => skip::<FunctionNameEntry>(cut, at, n),
+        TableKind::Strings => skip::<StringLayoutEntry>(cut, at, n),
+        TableKind::Files => skip::<SourceFileEntry>(cut, at, n),
+        TableKind::Enumerations => skip::<EnumerationEntry>(cut, at, n),
+        TableKind::Unknown => Ok(at),
     }
 }
 
-// The payload at `at`: a listed table is read by its own count, any other is skipped by its row's size.
-fn read_payload(s: &[u8], at: usize, kind: TableKind, size: usize) -> PayloadStep
-    requires { at ≤ length s.now }
-    ensures { payload_step s.now result ≡ step_at (payload_start (kind_in kind) size at) s.now at }
+// The payload at `at`: where its entries stand if its tag is listed, and the place after it. A listed table is read by its own count, any other is
+// passed over by its row's size.
+#[tactic(auto, using(crate::proofs::Payloads::listed_short, crate::proofs::Payloads::listed_err, crate::proofs::Payloads::listed_ok, crate::proofs::Payloads::other_short, crate::proofs::Payloads::other_ok))]
+fn read_payload(
+    cut: Cut,
+    at: usize,
+    kind: TableKind,
+    size: usize,
+) -> Result<(Table, usize), DebugFault>
+    requires { at ≤ length cut.bytes.now }
+    ensures { step_by (debug_fault_of cut.entry.bytes.now) as_it_is result ≡ step_at (payload_start (kind_in kind) size at) cut.entry.bytes.now at }
 {
     if is_listed(kind) {
-        if s.len() - at < COUNT_SIZE {
-            return PayloadStep::Fault(DebugFault::Short);
+        if cut.left(at) < COUNT_SIZE {
+            return Err(DebugFault::Short);
         }
-        let first = at + COUNT_SIZE;
-        let count = u16_at(s, at) as usize;
-        return match skip_entries(s, first, kind, count) {
-            DebugWalk::Fault(e) => PayloadStep::Fault(e),
-            DebugWalk::At(m) => PayloadStep::Table(Table { at: first, count }, m),
+        let table = Table {
+            at: at + COUNT_SIZE,
+            count: u16_at(cut.bytes, at) as usize,
         };
+        let end = skip_entries(cut, table.at, kind, table.count)?;
+        return Ok((table, end));
     }
-    if s.len() - at < size {
-        return PayloadStep::Fault(DebugFault::Short);
+    if cut.left(at) < size {
+        return Err(DebugFault::Short);
     }
-    PayloadStep::Table(Table { at: 0, count: 0 }, at + size)
+    Ok((Table { at: 0, count: 0 }, at + size))
 }
 
-// Puts `t` in force as the table of its kind: a later table of a tag replaces the earlier, even by an empty one.
-fn put(tables: DebugTables, kind: TableKind, t: Table) -> DebugTables
-    ensures { result ≡ put_as (kind_in kind) t tables }
+// The section's reader: why it does not read, or where its tables in force stand. A later table of a tag replaces the earlier, even by an empty one.
+pub fn tables_of(cut: Cut) -> Result<DebugTables, DebugFault>
+    ensures { got_by (debug_fault_of cut.entry.bytes.now) as_it_is result ≡ item_of (debug_starts cut.entry.bytes.now) }
 {
-    let mut u = tables;
-    match kind {
-        TableKind::Lines => {
-            u.lines = t;
-        }
-        TableKind::Variables => {
-            u.variables = t;
-        }
-        TableKind::Functions => {
-            u.functions = t;
-        }
-        TableKind::Strings => {
-            u.strings = t;
-        }
-        TableKind::Files => {
-            u.files = t;
-        }
-        TableKind::Enumerations => {
-            u.enumerations = t;
-        }
-        TableKind::Unknown => {}
+    if cut.left(0) < COUNT_SIZE {
+        return Err(DebugFault::Short);
     }
-    u
-}
-
-fn no_tables() -> DebugTables
-    ensures { result ≡ no_starts }
-{
-    let none = Table { at: 0, count: 0 };
-    DebugTables {
-        lines: none,
-        variables: none,
-        functions: none,
-        strings: none,
-        files: none,
-        enumerations: none,
-    }
-}
-
-// The section's reader: why it does not read, or where its tables in force stand.
-pub fn read_tables(s: &[u8]) -> DebugTablesAnswer
-    ensures { debug_tables_from s.now result ≡ item_of (debug_starts s.now) }
-{
-    if s.len() < COUNT_SIZE {
-        return DebugTablesAnswer::Fault(DebugFault::Short);
-    }
-    let n = u16_at(s, 0) as usize;
+    let n = u16_at(cut.bytes, 0) as usize;
     let mut p = COUNT_SIZE + DIR_ENTRY_SIZE * n;
-    if s.len() < p {
-        return DebugTablesAnswer::Fault(DebugFault::Short);
+    if cut.bytes.len() < p {
+        return Err(DebugFault::Short);
     }
-    let mut tables = no_tables();
-    let mut i = 0;
-    while i < n {
+    let mut tables = SixTags::all(Table { at: 0, count: 0 });
+    for i in 0..n {
         let row = COUNT_SIZE + DIR_ENTRY_SIZE * i;
-        let kind = kind_of(u16_at(s, row));
-        match read_payload(s, p, kind, u32_at(s, row + ROW_SIZE_AT) as usize) {
-            PayloadStep::Fault(e) => {
-                return DebugTablesAnswer::Fault(e);
-            }
-            PayloadStep::Table(t, m) => {
-                tables = put(tables, kind, t);
-                p = m;
-                i += 1;
-            }
-        }
+        let kind = TableKind::from(u16_at(cut.bytes, row));
+        let size = u32_at(cut.bytes, row + ROW_SIZE_AT) as usize;
+        let (table, end) = read_payload(cut, p, kind, size)?;
+        tables = tables.set(kind, table);
+        p = end;
     }
-    DebugTablesAnswer::Tables(tables)
+    Ok(tables)
 }
+
+// A table's count has two bytes. Empty body: the contract makes the checker prove it, of the bytes of a slice.
+fn two_byte_counts(s: &[u8], t: DebugTables)
+    requires { found t ≡ item_of (debug_starts s.now) }
+    ensures { TwoByteCounts t }
+{}
 
 // The section's reader by its counts: why it does not read, or how many entries its tables have.
-pub fn read_from(s: &[u8]) -> DebugCountsAnswer
-    ensures { debug_counts_from s.now result ≡ counts_read s.now }
+#[tactic(auto, using(crate::proofs::Counts::none_counted, crate::proofs::Counts::some_counted))]
+pub fn read_from(cut: Cut) -> Result<DebugCounts, DebugFault>
+    ensures { got_by (debug_fault_of cut.entry.bytes.now) debug_counts_in result ≡ counts_read cut.entry.bytes.now }
 {
-    match read_tables(s) {
-        DebugTablesAnswer::Fault(e) => DebugCountsAnswer::Fault(e),
-        DebugTablesAnswer::Tables(t) => DebugCountsAnswer::Counts(DebugCounts {
-            lines: t.lines.count as u16,
-            variables: t.variables.count as u16,
-            functions: t.functions.count as u16,
-            strings: t.strings.count as u16,
-            files: t.files.count as u16,
-            enumerations: t.enumerations.count as u16,
-        }),
-    }
+    let t = tables_of(cut)?;
+    two_byte_counts(cut.bytes, t);
+    Ok(SixTags {
+        lines: t.lines.count as u16,
+        variables: t.variables.count as u16,
+        functions: t.functions.count as u16,
+        strings: t.strings.count as u16,
+        files: t.files.count as u16,
+        enumerations: t.enumerations.count as u16,
+    })
 }
 
-// The section's bad place; none where it reads, or ends before an announced item.
-pub fn bad_place(s: &[u8]) -> BadPlace
-    ensures { bad_place_in result ≡ bad_place s.now }
+// Which byte keeps the section from being read: where the first fault in it is a name or a path that lies whole in it and is not UTF-8, the place
+// of its first bad byte, counted from the section's start. None where it reads, or ends before an announced item.
+pub fn bad_place(cut: Cut) -> Option<usize>
+    ensures { bad_place_in result ≡ bad_place cut.entry.bytes.now }
 {
-    match read_tables(s) {
-        DebugTablesAnswer::Fault(e) => match e {
-            DebugFault::Short => BadPlace::None,
-            DebugFault::BadText(p) => BadPlace::At(p),
-        },
-        DebugTablesAnswer::Tables(_) => BadPlace::None,
+    match tables_of(cut) {
+        Err(DebugFault::BadText(p)) => Some(p),
+        Err(DebugFault::Short) => None,
+        Ok(_) => None,
     }
 }
 

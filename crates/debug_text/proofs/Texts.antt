@@ -1,53 +1,51 @@
 -- A text at a place of the section: what each test of the code says of it.
-use mathlib.Core.Path.{◌≡◌, refl, ap, subst, ◌∙◌}
-use mathlib.Core.Bool.{Bool, true, false}
-use mathlib.Core.List.{List}
-use Prim.Native.Nat.{ℕ, ◌+◌, ◌-◌, ◌≤◌, ◌<◌}
-use native.Mathlib.Omega.{arith}
-use lib.ListN.{length, take, drop, length-drop}
+use Rattle.std.proofs.Common.{◌≡◌, ℕ, ◌+◌, ◌-◌, ◌≤◌, ◌<◌, Bool, true, false, List, length, drop, refl, ap, ◌∙◌, arith}
+use Rattle.std.specs.Prelude.{take}
+use mathlib.Core.Path.{subst}
+use lib.ListN.{length-drop}
 use borrow.Author.Tests.{eq-eqb, ne_eqb}
 use Rattle.utf8.specs.Utf8.{valid_up_to, utf8}
 use Rattle.utf8.proofs.Longest.{laws}
 use Rattle.reading.specs.Fault.{Fault, short_input, bad_text}
 use Rattle.reading.specs.Numbers.{le_at}
 use Rattle.reading.specs.Reader.{fault, got, check, bytes, number}
-use Rattle.reading.specs.Places.{item, Reads}
+use Rattle.reading.specs.Places.{stops, item, Reads, step_at}
 use Rattle.reading.proofs.Parts.{length_part}
 use Rattle.reading.proofs.Reading.{never, both, bytes-at, bytes-short, bytes-length, number_at}
-use Rattle.reading.proofs.Width.{Needs, needs-bind, needs-none, fixed-bytes, fixed_number, fixed-width, width-number}
-use Rattle.reading.proofs.Local.{local-give, local-check, local-bytes, local-number}
-use Rattle.reading.proofs.Left.{Stays, stays-local, stays-bind, stays-left}
+use Rattle.reading.proofs.Width.{needs-bind, needs-none, fixed-bytes, fixed_number, fixed-width, width-number}
 use Rattle.format.specs.Parts.{Place, Keep}
 use Rattle.format.specs.Debug.{text, name, path}
+use Rattle.base.proofs.Entries.{read_err, read_ok, read_short}
 use Rattle.debug_text.specs.Answers.{keep_in}
 
 module _ (base : ℕ) (s : List ℕ) (at n : ℕ) where
-  pub text-short : length s - at < n → text (keep_in base s) n (drop at s) ≡ fault short_input
+  pub text_short : length s - at < n → stops short_input ≡ step_at (text (keep_in base s) n) s at
   unfolding text
-  text-short h = let l = length-drop at s in rw (bytes-short n (drop at s) (omega arith))
+  text_short h = let l = length-drop at s in read_err (text (keep_in base s) n) s at short_input (rw (bytes-short n (drop at s) (omega arith)))
 
   module _ (h : at + n ≤ length s) where
     -- the good start of the text that stands there
-    pub good-most : valid_up_to (take n (drop at s)) ≤ n
+    good-most : valid_up_to (take n (drop at s)) ≤ n
     good-most = let l = length_part s at n h in rw l at (laws.longest-valid-start (take n (drop at s))).within
 
-    pub text-good : n ≤ valid_up_to (take n (drop at s)) → text (keep_in base s) n (drop at s) ≡ got (record { offset = base + at; size = n }) (drop (at + n) s)
+    pub text_good : n ≤ valid_up_to (take n (drop at s)) → item (record { offset = base + at; size = n }) (at + n) ≡ step_at (text (keep_in base s) n) s at
     unfolding text utf8
-    text-good g =
+    text_good g =
         let l = length_part s at n h in
         let d = length-drop at s in
         let m = good-most in
         let z : base + length s - (length s - at - n) - n ≡ base + at = omega arith in
-        rw (bytes-at n s at (at + n) refl h, eq-eqb (valid_up_to (take n (drop at s))) (length (take n (drop at s))) (omega arith), d, l, z)
+        read_ok (text (keep_in base s) n) s at _ (at + n) h (rw (bytes-at n s at (at + n) refl h, eq-eqb (valid_up_to (take n (drop at s))) (length (take n (drop at s))) (omega arith), d, l, z))
 
-    pub text-bad : valid_up_to (take n (drop at s)) < n → text (keep_in base s) n (drop at s) ≡ fault (bad_text (length s - (at + valid_up_to (take n (drop at s)))))
+    pub text_bad : valid_up_to (take n (drop at s)) < n → stops (bad_text (length s - (at + valid_up_to (take n (drop at s))))) ≡ step_at (text (keep_in base s) n) s at
     unfolding text utf8
-    text-bad g =
+    text_bad g =
         let l = length_part s at n h in
-        rw (bytes-at n s at (at + n) refl h, ne_eqb (valid_up_to (take n (drop at s))) (length (take n (drop at s))) (λ e. omega arith), length-drop at s) (ap (λ (k : ℕ). fault (bad_text k)) (omega arith))
+        read_err (text (keep_in base s) n) s at _
+        (rw (bytes-at n s at (at + n) refl h, ne_eqb (valid_up_to (take n (drop at s))) (length (take n (drop at s))) (λ e. omega arith), length-drop at s) (ap (λ (k : ℕ). fault (bad_text k)) (omega arith)))
 
 -- a text's place ends where reading continues
-pub text-ends : (base : ℕ) (s x : List ℕ) (n : ℕ) (q : Place) (t : List ℕ) → length x ≤ length s → text (keep_in base s) n x ≡ got q t → q.offset + q.size + length t ≡ base + length s
+text-ends : (base : ℕ) (s x : List ℕ) (n : ℕ) (q : Place) (t : List ℕ) → length x ≤ length s → text (keep_in base s) n x ≡ got q t → q.offset + q.size + length t ≡ base + length s
 unfolding text
 text-ends base s x n q t h e =
     let b = both (bytes n x) e in
@@ -78,38 +76,21 @@ name-ends base s at q m g =
     let i = g.0 in
     omega arith
 
--- what a text leaves is left of the section
-module _ {T : Type 0} (keep : Keep T) (s : List ℕ) where
-  pub stays-text : (n : ℕ) → Stays s (text keep n)
-  unfolding text
-  stays-text n =
-      stays-bind s (stays-left s) λ whole.
-      stays-bind s (stays-local s (local-bytes n)) λ t.
-      stays-bind s (stays-local s (local-check (utf8 t) (bad_text (whole - valid_up_to t)))) λ u. stays-local s (local-give (keep t (whole - n)))
-
-  pub stays-name : Stays s (name keep)
-  unfolding name
-  stays-name = stays-bind s (stays-local s (local-number 1)) stays-text
-
-  pub stays-path : Stays s (path keep)
-  unfolding path
-  stays-path = stays-bind s (stays-local s (local-number 2)) stays-text
-
 -- a length, then the text
-module _ {T : Type 0} (keep : Keep T) where
-  pub name-needs : Needs 1 (name keep)
+module _ {T : Type 0} (keep : Keep T) (s : List ℕ) (at : ℕ) where
+  pub name_short : length s - at < 1 → stops short_input ≡ step_at (name keep) s at
   unfolding name
-  name-needs = needs-bind (fixed_number 1) (λ n. needs-none (text keep n))
+  name_short h = read_short (name keep) s (needs-bind (fixed_number 1) (λ n. needs-none (text keep n))) at h
 
-  pub path-needs : Needs 2 (path keep)
+  pub path_short : length s - at < 2 → stops short_input ≡ step_at (path keep) s at
   unfolding path
-  path-needs = needs-bind (fixed_number 2) (λ n. needs-none (text keep n))
+  path_short h = read_short (path keep) s (needs-bind (fixed_number 2) (λ n. needs-none (text keep n))) at h
 
-  module _ (s : List ℕ) (at n : ℕ) where
-    pub name-as : at + 1 ≤ length s → n ≡ le_at 1 s at → name keep (drop at s) ≡ text keep n (drop (at + 1) s)
-    unfolding name
-    name-as h e = rw (number_at 1 s at (at + 1) refl h, e)
+  module _ (n : ℕ) where
+    pub name_text : at + 1 ≤ length s → n ≡ le_at 1 s at → step_at (text keep n) s (at + 1) ≡ step_at (name keep) s at
+    unfolding name step_at
+    name_text h e = rw (number_at 1 s at (at + 1) refl h, e)
 
-    pub path-as : at + 2 ≤ length s → n ≡ le_at 2 s at → path keep (drop at s) ≡ text keep n (drop (at + 2) s)
-    unfolding path
-    path-as h e = rw (number_at 2 s at (at + 2) refl h, e)
+    pub path_text : at + 2 ≤ length s → n ≡ le_at 2 s at → step_at (text keep n) s (at + 2) ≡ step_at (path keep) s at
+    unfolding path step_at
+    path_text h e = rw (number_at 2 s at (at + 2) refl h, e)

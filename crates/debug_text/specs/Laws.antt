@@ -1,20 +1,20 @@
 -- Document 02, slip 1: "Every name and path reader passes it up as a place within the debug section." The contracts compare a fault by the bytes left
 -- in the section. This fixes its place: an answer that meets a contract and tells a bad text tells the place of the text's first bad byte.
-use Rattle.std.specs.Prelude.{ℕ, ◌+◌, ◌≤◌, ◌<◌, ◌≡◌, List, length}
+use Rattle.std.specs.Prelude.{ℕ, ◌+◌, ◌≤◌, ◌<◌, ◌≡◌, List, length, Result, Err}
 use Rattle.reading.specs.Numbers.{le_at}
 use Rattle.reading.specs.Places.{step_at}
 use Rattle.format.specs.Debug.{text, name, path}
 use Rattle.requests.specs.BadPlace.{BadAt}
 use Rattle.debug_text.specs.Answers.{keep_in, text_step}
+use Rattle.base.specs.declared.section.Part.{Part}
+use Rattle.debug_text.specs.declared.DebugFault.{DebugFault}
 use Rattle.debug_text.specs.declared.DebugFault.TheVariants as debug_fault
-use Rattle.debug_text.specs.declared.TextStep.{TextStep}
-use Rattle.debug_text.specs.declared.TextStep.TheVariants as step_text
 
-abbrev pub bad_at : ℕ → TextStep
-bad_at p = step_text.Fault (debug_fault.BadText p)
+abbrev pub bad_at : ℕ → Result (Part × ℕ) DebugFault
+bad_at p = Err (debug_fault.BadText p)
 
-abbrev pub short : TextStep
-short = step_text.Fault debug_fault.Short
+abbrev pub short : Result (Part × ℕ) DebugFault
+short = Err debug_fault.Short
 
 -- at the place `at` of the section `s`, which is at `base` of the file
 pub record Places (base : ℕ) (s : List ℕ) (at : ℕ) : Type 0 where

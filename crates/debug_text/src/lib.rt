@@ -1,17 +1,20 @@
-// Texts, names and paths of the debug section. `s` is the section and `base` its place in the file; each text is answered as a part of the file.
+// Texts, names and paths of the debug section; each text is answered as a part of the file.
 // A name has a 1-byte length, a path a 2-byte length, and both must be UTF-8.
 #![tactic(auto)]
 
 ghost use Rattle.std.specs.Prelude.{◌≡◌, ◌≤◌, length};
-ghost use Rattle.reading.specs.Reader.{many};
-ghost use Rattle.reading.specs.Places.{step_at, way_at, step_of};
+ghost use Rattle.reading.specs.Places.{step_at};
+ghost use Rattle.format.specs.Parts.{Place, by_place};
 ghost use Rattle.format.specs.Debug.{text, name, path};
-ghost use Rattle.debug_text.specs.Answers.{InFile, keep_in, way_of, text_step, name_found, name_walk};
-ghost use Rattle.debug_text.specs.Picked.{picked};
+ghost use Rattle.format.proofs.Leaves.{stays-name};
+ghost use Rattle.base.specs.Cut.{place_of};
+ghost use Rattle.debug_text.specs.Answers.{debug_fault_of, text_step, name_in};
 ghost use Rattle.debug_text.specs.Laws.{Laws};
 
+use base::cut::Cut;
+use base::entry::Entry;
 use base::section::Part;
-use reading::{Table, u8_at, u16_at};
+use reading::{u8_at, u16_at};
 use utf8::valid_up_to;
 
 // The size of a count: of rows, of entries, of values.
@@ -31,144 +34,65 @@ pub enum DebugFault {
     BadText(usize),
 }
 
-// Where reading continues after what was skipped.
-#[derive(Clone, Copy)]
-pub enum DebugWalk {
-    Fault(DebugFault),
-    At(usize),
-}
-
-// A text, and the place after it.
-#[derive(Clone, Copy)]
-pub enum TextStep {
-    Fault(DebugFault),
-    Text(Part, usize),
-}
-
-// The name that a lookup finds; `NoEntry` if the table has none at the index.
-#[derive(Clone, Copy)]
-pub enum NameFound {
-    Fault(DebugFault),
-    NoEntry,
-    Name(Part),
-}
-
-// One step of a walk over names.
-#[derive(Clone, Copy)]
-pub enum NameWalk {
-    End,
-    Fault(DebugFault),
-    Name(Part, Table),
-}
-
-// The text of `n` bytes at `at`.
-pub fn read_text(s: &[u8], base: usize, at: usize, n: usize) -> TextStep
-    requires { (at ≤ length s.now) × InFile base s.now }
-    ensures { text_step s.now result ≡ step_at (text (keep_in base s.now) n) s.now at }
+// The text of `n` bytes at `at`, and the place after it.
+#[tactic(auto, using(crate::proofs::Texts::text_short, crate::proofs::Texts::text_good, crate::proofs::Texts::text_bad))]
+pub fn read_text(cut: Cut, at: usize, n: usize) -> Result<(Part, usize), DebugFault>
+    requires { at ≤ length cut.bytes.now }
+    ensures { text_step cut.entry.bytes.now result ≡ step_at (text (by_place (place_of cut.entry)) n) cut.entry.bytes.now at }
 {
-    if s.len() - at < n {
-        return TextStep::Fault(DebugFault::Short);
+    if cut.left(at) < n {
+        return Err(DebugFault::Short);
     }
     let end = at + n;
-    let good = valid_up_to(&s[at..end]);
+    let good = valid_up_to(&cut.bytes[at..end]);
     if good < n {
-        return TextStep::Fault(DebugFault::BadText(at + good));
+        return Err(DebugFault::BadText(at + good));
     }
-    TextStep::Text(
-        Part {
-            offset: base + at,
-            size: n,
-        },
-        end,
-    )
+    let text = Part {
+        offset: cut.offset + at,
+        size: n,
+    };
+    Ok((text, end))
 }
 
-pub fn read_name(s: &[u8], base: usize, at: usize) -> TextStep
-    requires { (at ≤ length s.now) × InFile base s.now }
-    ensures { text_step s.now result ≡ step_at (name (keep_in base s.now)) s.now at }
-{
-    if s.len() - at < NAME_LENGTH_SIZE {
-        return TextStep::Fault(DebugFault::Short);
-    }
-    let n = u8_at(s, at) as usize;
-    read_text(s, base, at + NAME_LENGTH_SIZE, n)
-}
+// A name; the part of the file that its text is.
+#[derive(Clone, Copy)]
+pub struct Name(pub Part);
 
-pub fn read_path(s: &[u8], base: usize, at: usize) -> TextStep
-    requires { (at ≤ length s.now) × InFile base s.now }
-    ensures { text_step s.now result ≡ step_at (path (keep_in base s.now)) s.now at }
-{
-    if s.len() - at < PATH_LENGTH_SIZE {
-        return TextStep::Fault(DebugFault::Short);
-    }
-    let n = u16_at(s, at) as usize;
-    read_text(s, base, at + PATH_LENGTH_SIZE, n)
-}
+impl Entry for Name {
+    type Error = DebugFault;
 
-// Skips the `n` names from `at` on.
-pub fn skip_names(s: &[u8], base: usize, at: usize, n: usize) -> DebugWalk
-    requires { (at ≤ length s.now) × InFile base s.now }
-    ensures { way_of s.now result ≡ way_at (many n (name (keep_in base s.now))) s.now at }
-{
-    let mut p = at;
-    let mut i = 0;
-    while i < n {
-        match read_name(s, base, p) {
-            TextStep::Fault(e) => {
-                return DebugWalk::Fault(e);
-            }
-            TextStep::Text(_, m) => {
-                p = m;
-                i += 1;
-            }
+    ghost Kept = { Place };
+
+    ghost kept = { name_in };
+
+    ghost told = { debug_fault_of };
+
+    ghost reader = { λ p. name (by_place p) };
+
+    ghost stays = { λ p s. stays-name (by_place p) s };
+
+    #[tactic(auto, using(crate::proofs::Texts::name_short, crate::proofs::Texts::name_text))]
+    fn read(cut: Cut, at: usize) -> Result<(Self, usize), DebugFault> {
+        if cut.left(at) < NAME_LENGTH_SIZE {
+            return Err(DebugFault::Short);
         }
-    }
-    DebugWalk::At(p)
-}
-
-// The name with index `k` among the `n` names from `at` on.
-pub fn find_name(s: &[u8], base: usize, at: usize, n: usize, k: usize) -> NameFound
-    requires { InFile base s.now }
-    ensures { name_found s.now result ≡ picked (name (keep_in base s.now)) s.now at n k }
-{
-    if n <= k {
-        return NameFound::NoEntry;
-    }
-    if s.len() < at {
-        return NameFound::Fault(DebugFault::Short);
-    }
-    match skip_names(s, base, at, k) {
-        DebugWalk::Fault(e) => NameFound::Fault(e),
-        DebugWalk::At(p) => match read_name(s, base, p) {
-            TextStep::Fault(e) => NameFound::Fault(e),
-            TextStep::Text(x, _) => NameFound::Name(x),
-        },
+        let n = u8_at(cut.bytes, at) as usize;
+        let (text, end) = read_text(cut, at + NAME_LENGTH_SIZE, n)?;
+        Ok((Name(text), end))
     }
 }
 
-// The next name of a walk.
-pub fn next_name(s: &[u8], base: usize, t: Table) -> NameWalk
-    requires { InFile base s.now }
-    ensures { name_walk s.now result ≡ step_of (name (keep_in base s.now)) s.now t }
+// The path at `at`, and the place after it.
+#[tactic(auto, using(crate::proofs::Texts::path_short, crate::proofs::Texts::path_text))]
+pub fn read_path(cut: Cut, at: usize) -> Result<(Part, usize), DebugFault>
+    ensures { text_step cut.entry.bytes.now result ≡ step_at (path (by_place (place_of cut.entry))) cut.entry.bytes.now at }
 {
-    let at = t.at;
-    let count = t.count;
-    if count == 0 {
-        return NameWalk::End;
+    if cut.left(at) < PATH_LENGTH_SIZE {
+        return Err(DebugFault::Short);
     }
-    if s.len() < at {
-        return NameWalk::Fault(DebugFault::Short);
-    }
-    match read_name(s, base, at) {
-        TextStep::Fault(e) => NameWalk::Fault(e),
-        TextStep::Text(x, m) => NameWalk::Name(
-            x,
-            Table {
-                at: m,
-                count: count - 1,
-            },
-        ),
-    }
+    let n = u16_at(cut.bytes, at) as usize;
+    read_text(cut, at + PATH_LENGTH_SIZE, n)
 }
 
 // The claims of `specs/Laws.antt` hold. Empty body: the contract makes the checker prove them.

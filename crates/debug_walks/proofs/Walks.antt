@@ -1,5 +1,5 @@
 -- Walks over the tables in force give the tables.
-use mathlib.Core.Path.{◌≡◌, refl, ap, ◌∙◌}
+use mathlib.Core.Path.{◌≡◌, refl, ap, subst, ◌∙◌}
 use mathlib.Core.List.{List, [], map}
 use Prim.Native.Nat.{ℕ, zero, suc, ◌≤◌}
 use native.Mathlib.Omega.{arith}
@@ -13,16 +13,16 @@ use Rattle.format.specs.Parts.{Place, cut, Keep, by_place}
 use Rattle.format.specs.Debug.{line, name, variable, function_name, string_layout, source_file, Enumeration, enumeration, Tables}
 use Rattle.format.proofs.Answers.{never, steps}
 use Rattle.format.proofs.Readers.{local-line}
-use Rattle.base.proofs.FileLookups.{sliced, step-ends, step_count}
+use Rattle.base.proofs.FileLookups.{step-ends, step_count}
 use Rattle.debug_text.specs.Answers.{keep_in}
 use Rattle.reading.proofs.Made.{holds-made}
 use Rattle.debug_entries.specs.Answers.{entry_of, enumeration_entry}
-use Rattle.debug_entries.proofs.Entries.{stays-entry}
+use Rattle.debug_entries.specs.Stays.{entry_stays}
 use Rattle.debug_entries.proofs.Giving as entries
 use Rattle.debug_section.specs.Lookups.{debug_tables_at}
 use Rattle.debug_walks.specs.Steps.{no_debug_step, debug_step_by, debug_step_at}
 use Rattle.debug_walks.specs.Laws.{Walks, Laws}
-use Rattle.debug_section.proofs.Parts.{moved, tables-found}
+use Rattle.debug_section.proofs.Parts.{kept, tables-found}
 
 module _ {A : Type 0} where
   -- no step is left after a table's last entry
@@ -54,24 +54,23 @@ module _ (f : List ℕ) (p : Place) (t : Tables Place) (d : debug_tables_at f p 
   step_is r u = ap (λ (x : Got Place). debug_step_by f x r u) reads.part.part
 
   -- a table whose walk over the section's bytes is known
-  abbrev Walkable : {A : Type 0} → (Keep Place → Reader A) → Keep Place → List ℕ → Type 0
-  Walkable r keep s = (u : Table) → walked u.count (r keep) s u ≡ item_of (left_of (r keep) s u)
+  abbrev Walkable : {A : Type 0} → (Keep Place → Reader A) → Keep Place → Type 0
+  Walkable r keep = (u : Table) → walked u.count (r keep) (cut f p) u ≡ item_of (left_of (r keep) (cut f p) u)
 
-  gives : {A : Type 0} (r : Keep Place → Reader A) (u : Table) (xs : List A) → Walkable r (keep_in p.offset (sliced f p)) (sliced f p) → Holds (r (by_place p)) (cut f p) u xs
+  gives : {A : Type 0} (r : Keep Place → Reader A) (u : Table) (xs : List A) → Walkable r (keep_in p.offset (cut f p)) → Holds (r (by_place p)) (cut f p) u xs
       → Gives (debug_step_at f p (r (by_place p))) u xs
   gives r u xs w h =
       λ n l.
       driven-gives (r (by_place p)) (cut f p) (debug_step_at f p (r (by_place p))) (step_is (r (by_place p))) u.count n u xs refl l
-      (moved f p refl reads.part.inside (Walkable r) w u ∙ ap item_of h.reads)
+      (subst (Walkable r) (kept f p reads.part.inside) w u ∙ ap item_of h.reads)
 
   values : (i : ℕ) (e : Enumeration Place) → indexed no_entry t.enumerations i ≡ found e → Gives (debug_step_at f p (name (by_place p))) (entry_of p.offset e).values e.values
   values i e k =
       let u = reads.starts.enumerations in
-      let l = (entries.laws).enumerations p.offset (sliced f p) in
-      gives name (entry_of p.offset e).values e.values ((entries.laws).names p.offset (sliced f p)).walk
-      (moved f p refl reads.part.inside
-      (λ keep s. Holds (enumeration keep) s u t.enumerations → Holds (name keep) s (entry_of p.offset e).values e.values)
-      (λ h. (l.found-is u.at u.count i e (l.lookup u i t.enumerations h.rest h.reads ∙ k)).2)
+      let l = (entries.laws).enumerations p.offset (cut f p) in
+      gives name (entry_of p.offset e).values e.values ((entries.laws).names p.offset (cut f p)).walk
+      (subst (λ (keep : Keep Place). Holds (enumeration keep) (cut f p) u t.enumerations → Holds (name keep) (cut f p) (entry_of p.offset e).values e.values)
+      (kept f p reads.part.inside) (λ h. (l.found-is u.at u.count i e (l.lookup u i t.enumerations h.rest h.reads ∙ k)).2)
       reads.stand.enumerations)
 
   pub walks : Walks f p t
@@ -81,7 +80,7 @@ module _ (f : List ℕ) (p : Place) (t : Tables Place) (d : debug_tables_at f p 
       let s = g.stand in
       let l = entries.laws in
       let o = p.offset in
-      let b = sliced f p in
+      let b = cut f p in
       record {
         starts = u;
         started = g.started;
@@ -90,7 +89,7 @@ module _ (f : List ℕ) (p : Place) (t : Tables Place) (d : debug_tables_at f p 
         functions = gives function_name u.functions t.functions (l.functions o b).walk s.functions;
         strings = gives (λ keep. string_layout) u.strings t.strings (l.strings b).walk s.strings;
         files = gives source_file u.files t.files (l.files o b).walk s.files;
-        enumerations = gives (enumeration_entry o) u.enumerations (map (entry_of o) t.enumerations) (λ v. walk-is-table b (enumeration_entry o (keep_in o b)) (stays-entry o (keep_in o b) b) v.count v refl)
+        enumerations = gives (enumeration_entry o) u.enumerations (map (entry_of o) t.enumerations) (λ v. walk-is-table b (enumeration_entry o (keep_in o b)) (entry_stays o (keep_in o b) b) v.count v refl)
             (holds-made (entry_of o) (enumeration (by_place p)) (cut f p) u.enumerations t.enumerations s.enumerations);
         values = values;
       }

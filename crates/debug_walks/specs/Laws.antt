@@ -5,7 +5,7 @@ use Rattle.reading.specs.Places.{Gives}
 use Rattle.format.specs.Faults.{no_entry}
 use Rattle.format.specs.Parts.{Place, by_place}
 use Rattle.format.specs.Debug.{line, name, variable, function_name, string_layout, source_file, Enumeration, Tables}
-use Rattle.debug_tables.specs.declared.DebugTables.{DebugTables}
+use Rattle.debug_tables.specs.SixTags.{DebugTables}
 use Rattle.debug_section.specs.Lookups.{debug_tables_at, starts_at}
 use Rattle.debug_entries.specs.Answers.{entry_of, enumeration_entry}
 use Rattle.debug_walks.specs.Steps.{debug_step_at}

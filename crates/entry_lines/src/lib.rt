@@ -15,13 +15,12 @@ ghost use Rattle.entry_lines.specs.Laws.{Laws};
 
 use code_section::FuncEntry;
 use constant_pool::{ConstEntry, Kept, number_bytes};
-use lent::Put;
 use line_map::LineMapEntry;
 use task_table::{ProgramInstanceEntry, TaskEntry};
 use text::{put_bytes_line, put_dash_line, put_line};
-use type_entries::{ArrayDescriptor, FbTypeDescriptor, FieldEntry, SizeAnswer, UserFbDescriptor};
+use type_entries::{ArrayDescriptor, FbTypeDescriptor, FieldEntry, UserFbDescriptor};
 
-pub fn put_task(out: &mut [u8], at: usize, t: TaskEntry) -> Put
+pub fn put_task(out: &mut [u8], at: usize, t: TaskEntry) -> Option<usize>
     ensures { Puts out.old at (task_line (task_in t)) out.new result }
 {
     let task_type = t.task_type;
@@ -39,7 +38,7 @@ pub fn put_task(out: &mut [u8], at: usize, t: TaskEntry) -> Put
     put_line(out, at, b"task", &ns)
 }
 
-pub fn put_program(out: &mut [u8], at: usize, p: ProgramInstanceEntry) -> Put
+pub fn put_program(out: &mut [u8], at: usize, p: ProgramInstanceEntry) -> Option<usize>
     ensures { Puts out.old at (program_line (program_in p)) out.new result }
 {
     let ns = [
@@ -55,14 +54,14 @@ pub fn put_program(out: &mut [u8], at: usize, p: ProgramInstanceEntry) -> Put
     put_line(out, at, b"program", &ns)
 }
 
-pub fn put_fb_type(out: &mut [u8], at: usize, b: FbTypeDescriptor) -> Put
+pub fn put_fb_type(out: &mut [u8], at: usize, b: FbTypeDescriptor) -> Option<usize>
     ensures { Puts out.old at (fb_type_line (fb_type_head_in b)) out.new result }
 {
     let ns = [b.type_id.0 as u64, b.num_fields as u64];
     put_line(out, at, b"fbtype", &ns)
 }
 
-pub fn put_field(out: &mut [u8], at: usize, f: FieldEntry) -> Put
+pub fn put_field(out: &mut [u8], at: usize, f: FieldEntry) -> Option<usize>
     ensures { Puts out.old at (field_line (field_in f)) out.new result }
 {
     let field_type = f.field_type;
@@ -71,7 +70,7 @@ pub fn put_field(out: &mut [u8], at: usize, f: FieldEntry) -> Put
 }
 
 // An array, by its index, with the byte size of all its elements, or a dash on overflow.
-pub fn put_array(out: &mut [u8], at: usize, index: usize, a: ArrayDescriptor) -> Put
+pub fn put_array(out: &mut [u8], at: usize, index: usize, a: ArrayDescriptor) -> Option<usize>
     ensures { Puts out.old at (array_line index (array_in a)) out.new result }
 {
     let size = a.byte_size();
@@ -81,18 +80,18 @@ pub fn put_array(out: &mut [u8], at: usize, index: usize, a: ArrayDescriptor) ->
     let extra = a.element_extra as u64;
     let stride = a.element_stride as u64;
     match size {
-        SizeAnswer::Refused(_) => {
+        Err(_) => {
             let ns = [index, kind, elements, extra, stride];
             put_dash_line(out, at, b"array", &ns)
         }
-        SizeAnswer::Bytes(bytes) => {
+        Ok(bytes) => {
             let ns = [index, kind, elements, extra, stride, bytes as u64];
             put_line(out, at, b"array", &ns)
         }
     }
 }
 
-pub fn put_user_fb(out: &mut [u8], at: usize, u: UserFbDescriptor) -> Put
+pub fn put_user_fb(out: &mut [u8], at: usize, u: UserFbDescriptor) -> Option<usize>
     ensures { Puts out.old at (user_fb_line (user_fb_in u)) out.new result }
 {
     let ns = [
@@ -105,7 +104,7 @@ pub fn put_user_fb(out: &mut [u8], at: usize, u: UserFbDescriptor) -> Put
 }
 
 // A constant's line: its index, its type and its kept bytes.
-fn put_kept(out: &mut [u8], at: usize, index: usize, kind: u8, bytes: &[u8]) -> Put
+fn put_kept(out: &mut [u8], at: usize, index: usize, kind: u8, bytes: &[u8]) -> Option<usize>
     ensures { Puts out.old at (bytes_line (ascii "constant") (index ∷ kind ∷ []) bytes.now) out.new result }
 {
     let ns = [index as u64, kind as u64];
@@ -113,7 +112,13 @@ fn put_kept(out: &mut [u8], at: usize, index: usize, kind: u8, bytes: &[u8]) -> 
 }
 
 // A constant, by its index, with its kept bytes; those of a string are a part of the file.
-pub fn put_constant(out: &mut [u8], at: usize, index: usize, c: ConstEntry, file: &[u8]) -> Put
+pub fn put_constant(
+    out: &mut [u8],
+    at: usize,
+    index: usize,
+    c: ConstEntry,
+    file: &[u8],
+) -> Option<usize>
     ensures { Puts out.old at (constant_line index (with_bytes file.now c)) out.new result }
 {
     let const_type = c.const_type;
@@ -131,7 +136,7 @@ pub fn put_constant(out: &mut [u8], at: usize, index: usize, c: ConstEntry, file
     }
 }
 
-pub fn put_function(out: &mut [u8], at: usize, f: FuncEntry) -> Put
+pub fn put_function(out: &mut [u8], at: usize, f: FuncEntry) -> Option<usize>
     ensures { Puts out.old at (function_line (func_in f)) out.new result }
 {
     let ns = [
@@ -145,7 +150,7 @@ pub fn put_function(out: &mut [u8], at: usize, f: FuncEntry) -> Put
     put_line(out, at, b"function", &ns)
 }
 
-pub fn put_line_entry(out: &mut [u8], at: usize, e: LineMapEntry) -> Put
+pub fn put_line_entry(out: &mut [u8], at: usize, e: LineMapEntry) -> Option<usize>
     ensures { Puts out.old at (line_line (line_in e)) out.new result }
 {
     let ns = [

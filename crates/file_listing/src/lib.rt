@@ -10,8 +10,7 @@ ghost use Rattle.file_listing.specs.Texts.{file_listing, program_listing};
 
 use base::error::ContainerError;
 use base::section::PROGRAM_LIMIT;
-use container::{ContainerAnswer, read_from};
-use lent::Put;
+use container::read_from;
 use listing::{put_container, put_debug, put_end, put_refused};
 use record::Container;
 use table_lines::{
@@ -20,69 +19,49 @@ use table_lines::{
 };
 
 // The types: FB types, arrays, user FBs.
-fn put_types(out: &mut [u8], at: usize, file: &[u8], c: Container) -> Put
+fn put_types(out: &mut [u8], at: usize, file: &[u8], c: Container) -> Option<usize>
     ensures { PutsRestFree out.old at (types_text file.now (container_in c)) out.new result }
 {
-    let Put::At(n) = put_fb_types(out, at, file, c) else {
-        return Put::NoRoom;
-    };
-    let Put::At(n) = put_arrays(out, n, file, c) else {
-        return Put::NoRoom;
-    };
+    let n = put_fb_types(out, at, file, c)?;
+    let n = put_arrays(out, n, file, c)?;
     put_user_fbs(out, n, file, c)
 }
 
 // The debug section: its counts and its lines.
-fn put_debug_text(out: &mut [u8], at: usize, file: &[u8], c: Container) -> Put
+fn put_debug_text(out: &mut [u8], at: usize, file: &[u8], c: Container) -> Option<usize>
     ensures { PutsRestFree out.old at (debug_text file.now (container_in c)) out.new result }
 {
     let debug = c.debug;
-    let Put::At(n) = put_debug(out, at, debug) else {
-        return Put::NoRoom;
-    };
+    let n = put_debug(out, at, debug)?;
     put_lines(out, n, file, c)
 }
 
 // A file and its record.
-fn put_loaded(out: &mut [u8], at: usize, file: &[u8], c: Container) -> Put
+fn put_loaded(out: &mut [u8], at: usize, file: &[u8], c: Container) -> Option<usize>
     ensures { PutsRestFree out.old at (file_text file.now (container_in c)) out.new result }
 {
-    let Put::At(n) = put_container(out, at, c.header) else {
-        return Put::NoRoom;
-    };
-    let Put::At(n) = put_tasks(out, n, file, c) else {
-        return Put::NoRoom;
-    };
-    let Put::At(n) = put_programs(out, n, file, c) else {
-        return Put::NoRoom;
-    };
-    let Put::At(n) = put_types(out, n, file, c) else {
-        return Put::NoRoom;
-    };
-    let Put::At(n) = put_constants(out, n, file, c) else {
-        return Put::NoRoom;
-    };
-    let Put::At(n) = put_functions(out, n, file, c) else {
-        return Put::NoRoom;
-    };
-    let Put::At(n) = put_debug_text(out, n, file, c) else {
-        return Put::NoRoom;
-    };
+    let n = put_container(out, at, c.header)?;
+    let n = put_tasks(out, n, file, c)?;
+    let n = put_programs(out, n, file, c)?;
+    let n = put_types(out, n, file, c)?;
+    let n = put_constants(out, n, file, c)?;
+    let n = put_functions(out, n, file, c)?;
+    let n = put_debug_text(out, n, file, c)?;
     put_end(out, n)
 }
 
 // The listing of a file, whether it loads or is refused.
-pub fn put_file(out: &mut [u8], at: usize, file: &[u8]) -> Put
+pub fn put_file(out: &mut [u8], at: usize, file: &[u8]) -> Option<usize>
     ensures { PutsRestFree out.old at (file_listing file.now) out.new result }
 {
     match read_from(file) {
-        ContainerAnswer::Refused(e) => put_refused(out, at, e),
-        ContainerAnswer::Container(c) => put_loaded(out, at, file, c),
+        Ok(c) => put_loaded(out, at, file, c),
+        Err(e) => put_refused(out, at, e),
     }
 }
 
 // The listing that a program prints of a file: above the programs' limit the line of refusal 10, whatever the library's limit is.
-pub fn put_file_for_program(out: &mut [u8], at: usize, file: &[u8]) -> Put
+pub fn put_file_for_program(out: &mut [u8], at: usize, file: &[u8]) -> Option<usize>
     ensures { PutsRestFree out.old at (program_listing file.now) out.new result }
 {
     if file.len() > PROGRAM_LIMIT {
@@ -107,7 +86,7 @@ pub fn put_on_page(page: &mut [u8; PAGE], file: &[u8]) -> usize
     ensures room { listing_room ≡ length page.new }
 {
     match put_file_for_program(page, 0, file) {
-        Put::NoRoom => 0,
-        Put::At(n) => n,
+        None => 0,
+        Some(n) => n,
     }
 }

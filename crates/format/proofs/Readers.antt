@@ -3,16 +3,82 @@ use mathlib.Core.Path.{◌≡◌, refl, ap, ◌∙◌}
 use mathlib.Core.Bool.{Bool, true, false}
 use mathlib.Core.List.{List, ◌++◌}
 use Prim.Native.Nat.{ℕ, ◌-◌}
+use lib.Dec.{leb}
 use lib.ListN.{length}
 use Rattle.utf8.specs.Utf8.{valid_up_to, utf8}
 use Rattle.reading.specs.Fault.{Fault, bad_text}
 use Rattle.reading.specs.Reader.{got, check, bytes}
 use Rattle.reading.proofs.Reading.{never, both}
-use Rattle.reading.proofs.Local.{Local, local-give, local-bind, local-bytes, local-number, local_counted}
+use Rattle.reading.proofs.Local.{Local, local-give, local-check, local-bind, local-bytes, local-number, local-many, local_counted}
+use Rattle.format.specs.Faults.{invalid_task_type, invalid_field_type, invalid_array_stride}
 use Rattle.format.specs.Parts.{by_bytes}
+use Rattle.format.specs.Tasks.{task, program}
+use Rattle.format.specs.Types.{field, fb_type, stride_fits, array, user_fb}
 use Rattle.format.specs.Code.{function}
 use Rattle.format.specs.Debug.{text, name, path, line, variable, function_name, string_layout, source_file, enumeration, Row, tag_of, size_of, kind_of, payload_of}
 use Rattle.format.specs.Debug.{Kind, lines, variables, functions, strings, files, enumerations, unknown, payload}
+
+pub local-task : Local task
+unfolding task
+local-task =
+    local-bind (local-number 2) λ i.
+    local-bind (local-number 2) λ p.
+    local-bind (local-number 1) λ k.
+    local-bind (local-number 1) λ f.
+    local-bind (local-number 8) λ n.
+    local-bind (local-number 2) λ v.
+    local-bind (local-number 8) λ w.
+    local-bind (local-number 2) λ m.
+    local-bind (local-number 2) λ o.
+    local-bind (local-bytes 4) λ r.
+    local-bind (local-check (leb k 2) (invalid_task_type k)) λ u. local-give _
+
+pub local-program : Local program
+unfolding program
+local-program =
+    local-bind (local-number 2) λ i.
+    local-bind (local-number 2) λ t.
+    local-bind (local-number 2) λ e.
+    local-bind (local-number 2) λ v.
+    local-bind (local-number 2) λ n.
+    local-bind (local-number 2) λ f.
+    local-bind (local-number 2) λ m.
+    local-bind (local-number 2) λ u. local-give _
+
+pub local-field : Local field
+unfolding field
+local-field =
+    local-bind (local-number 1) λ k.
+    local-bind (local-number 1) λ r.
+    local-bind (local-number 2) λ e.
+    local-bind (local-check (leb k 10) (invalid_field_type k)) λ u. local-give (record { kind = k; extra = e })
+
+pub local-fb-type : Local fb_type
+unfolding fb_type
+local-fb-type =
+    local-bind (local-number 2) λ i.
+    local-bind (local-number 1) λ n.
+    local-bind (local-number 1) λ r.
+    local-bind (local-many n local-field) λ fs. local-give _
+
+pub local-array : Local array
+unfolding array
+local-array =
+    local-bind (local-number 1) λ k.
+    local-bind (local-number 1) λ r.
+    local-bind (local-number 4) λ n.
+    local-bind (local-number 2) λ e.
+    local-bind (local-number 4) λ t.
+    local-bind (local-check (stride_fits k e t) (invalid_array_stride k t)) λ u. local-give (record { kind = k; elements = n; extra = e; stride = t })
+
+pub local-user-fb : Local user_fb
+unfolding user_fb
+local-user-fb =
+    local-bind (local-number 2) λ i.
+    local-bind (local-number 2) λ f.
+    local-bind (local-number 2) λ o.
+    local-bind (local-number 1) λ n.
+    local-bind (local-number 1) λ r. local-give _
 
 pub local-function : Local function
 unfolding function

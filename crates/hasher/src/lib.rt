@@ -14,11 +14,10 @@ ghost use Rattle.hasher.specs.Whole.{chunks_done, at_once};
 ghost use Rattle.hasher.specs.Laws.{Laws};
 
 use compression::{
-    BLOCK_LEN, CHUNK_END, CHUNK_LEN, LAST_BLOCK, LAST_BLOCK_START, PARENT, ROOT, iv, join,
-    start_flag, words_at, words_of,
+    BLOCK_LEN, CHUNK_END, CHUNK_LEN, LAST_BLOCK, LAST_BLOCK_START, PARENT, ROOT, compress,
+    compress_in_place, iv, join, start_flag, words_at, words_of,
 };
 use lent::copy;
-use unrolled::{compress, compress_in_place};
 use wide::{ChunkCounter, chunks4, counter_after};
 
 const FOUR_CHUNKS: usize = 4 * CHUNK_LEN;

@@ -1,65 +1,66 @@
--- An image of zeros, filled from the front: what was copied to it, then zeros.
-use Prim.Native.Nat.{ℕ, suc, ◌+◌, ◌-◌, ◌≤◌}
-use native.Mathlib.Omega.{arith}
-use mathlib.Core.Path.{◌≡◌, refl, sym, ap, ◌∙◌}
-use mathlib.Core.List.{List, [], ◌∷◌, ◌++◌, append-nil, append_assoc}
-use lib.ListN.{length, take, drop, set, get_or, replicate, length-append, length-replicate, replicate-append-replicate}
-use lib.Seq.{take_at, drop-drop, drop_at, set_at, append_snoc}
-use Rattle.reading.proofs.Parts.{drop-replicate, length_part}
-use Rattle.reading.proofs.Le.{le_at-one}
+-- A header that is masked from the front: what is done so far, and behind it the header as it was.
+use Rattle.std.proofs.Common.{◌≡◌, ℕ, ◌+◌, ◌≤◌, List, [], ◌∷◌, ◌++◌, length, take, drop, refl, sym, ap, ◌∙◌, append-nil, arith, length-drop}
+use Rattle.std.specs.Prelude.{set, get_or, replicate}
+use borrow.Rule.Slice.PartMut.{put_mid, mid_of, same_len_mid}
+use lib.Seq.{take-add, drop-drop, append_snoc}
+use Rattle.std.proofs.lemmas.List.{take_all, take_more_set, drop-set-lt, take-append-drop}
+use Rattle.std.proofs.lemmas.Slice.{take-put_mid, drop-put_mid}
+use Rattle.std.proofs.Math.ListN.{length-set, length-replicate}
+use Rattle.reading.proofs.Parts.{length_part}
+use Rattle.reading.proofs.Le.{le_at_one}
 use Rattle.format.specs.Parts.{part}
 use Rattle.format.specs.Header.{without_debug_bit}
 use Rattle.format.specs.Integrity.{masked_header}
 
-abbrev zeros : ℕ → List ℕ
-zeros n = replicate n 0
+-- what a part of k bytes at `b` holds after it was filled
+abbrev Filled : List ℕ → ℕ → ℕ → List ℕ → Type 0
+Filled image b k ys = ys ≡ replicate (length (mid_of b k image)) 0
 
--- `filled` and n zeros
-abbrev pub image : List ℕ → ℕ → List ℕ
-image filled n = filled ++ zeros n
+filled-is : (image ys : List ℕ) (b k : ℕ) → b + k ≤ length image → Filled image b k ys → ys ≡ replicate k 0
+filled-is image ys b k l e = e ∙ ap (λ (n : ℕ). replicate n 0) (length_part image b k l)
 
--- a part copied to the place `at`, z zeros after what is filled
-pub copied : (filled xs : List ℕ) (at z n r : ℕ) {before after : List ℕ} → at ≡ length filled + z → n ≡ z + (length xs + r) → before ≡ image filled n
-    → after ≡ take at before ++ xs ++ drop (at + length xs) before → after ≡ image (filled ++ zeros z ++ xs) r
-copied filled xs at z n r ea en eb ec =
-    let split : image filled n ≡ (filled ++ zeros z) ++ zeros (length xs + r) =
-    ap (image filled) en ∙ ap (λ (x : List ℕ). filled ++ x) (sym (replicate-append-replicate z (length xs + r) 0)) ∙ sym (append_assoc filled (zeros z) (zeros (length xs + r))) in
-    let l : length (filled ++ zeros z) ≡ at = length-append filled (zeros z) ∙ ap (λ (k : ℕ). length filled + k) (length-replicate z 0) ∙ sym ea in
-    let m : length xs + r - length xs ≡ r = omega arith in
-    ec
-    ∙ rw (eb, split, take_at (filled ++ zeros z) (zeros (length xs + r)) at l)
-    (ap (λ (x : List ℕ). filled ++ zeros z ++ xs ++ x)
-    (sym (drop-drop (length xs) at ((filled ++ zeros z) ++ zeros (length xs + r)))
-    ∙ ap (drop (length xs)) (drop_at (filled ++ zeros z) (zeros (length xs + r)) at l) ∙ drop-replicate {A = ℕ} (length xs) (length xs + r) 0 ∙ ap zeros m))
+room : (image ys : List ℕ) (b k : ℕ) → Filled image b k ys → length (put_mid b k image ys) ≡ length image
+room image ys b k e = same_len_mid b k image ys (ap length e ∙ length-replicate (length (mid_of b k image)) 0)
 
--- a byte written right after what is filled
-pub byte_put : (filled : List ℕ) (b at n : ℕ) {before : List ℕ} → at ≡ length filled → before ≡ image filled (suc n) → set before at b ≡ image (filled ++ (b ∷ [])) n
-byte_put filled b at n ea eb =
-    ap (λ (x : List ℕ). set x at b) eb ∙ set_at filled 0 (zeros n) b at (sym ea) ∙ sym (append_snoc filled b (zeros n))
+module _ (f : List ℕ) (w : ℕ) {x : List ℕ} (l : length f ≡ 256) (ex : Filled (set f 7 w) 8 32 x) where
+  pub room-second : 104 ≤ length (put_mid 8 32 (set f 7 w) x)
+  room-second = omega (arith, room (set f 7 w) x 8 32 ex, length-set f 7 w)
 
--- the image with each part copied in turn
-pub masked-by : (f : List ℕ) {a b c d : List ℕ} {w : ℕ} → 256 ≤ length f
-    → a ≡ take 0 (zeros 256) ++ part 0 7 f ++ drop (0 + length (part 0 7 f)) (zeros 256)
-    → w ≡ without_debug_bit (get_or f 7 0)
-    → b ≡ take 40 (set a 7 w) ++ part 40 32 f ++ drop (40 + length (part 40 32 f)) (set a 7 w)
-    → c ≡ take 104 b ++ part 104 32 f ++ drop (104 + length (part 104 32 f)) b
-    → d ≡ take 192 c ++ part 192 64 f ++ drop (192 + length (part 192 64 f)) c
-    → d ≡ masked_header f
+  pub room-third : {y : List ℕ} → Filled (put_mid 8 32 (set f 7 w) x) 72 32 y → 192 ≤ length (put_mid 72 32 (put_mid 8 32 (set f 7 w) x) y)
+  room-third {y} ey = omega (arith, room (put_mid 8 32 (set f 7 w) x) y 72 32 ey, room (set f 7 w) x 8 32 ex, length-set f 7 w)
+
+record Masked (f image front : List ℕ) (a : ℕ) : Type 0 where
+  done : take a image ≡ front
+  left : drop a image ≡ drop a f
+  long : length image ≡ length f
+
+-- n bytes more stay, and the k behind them are zeroed
+masked-more : (f image front : List ℕ) (a n k b e : ℕ) (ys : List ℕ) → b ≡ a + n → e ≡ b + k → e ≤ length f → Filled image b k ys → Masked f image front a
+    → Masked f (put_mid b k image ys) (front ++ part a n f ++ replicate k 0) e
+masked-more f image front a n k b e ys eb ee l fill m =
+    let z : ys ≡ replicate k 0 = filled-is image ys b k (omega arith) fill in
+    let n : length ys ≡ k = ap length z ∙ length-replicate k 0 in
+    record {
+      done = take-put_mid b k image ys e (omega arith) (omega arith) ∙ rw (z, kept);
+      left = drop-put_mid b k image ys e (omega arith) (omega arith) n ∙ behind;
+      long = room image ys b k fill ∙ m.long;
+    }
+  where
+    kept : take b image ≡ front ++ part a n f
+    kept = rw (eb, take-add a n image, m.done, m.left)
+
+    behind : drop e image ≡ drop e f
+    behind = let z : e ≡ a + (n + k) = omega arith in rw (z, ← drop-drop (n + k) a image, m.left, drop-drop (n + k) a f)
+
+-- the image with the byte of the flags and three parts replaced
+pub masked-by : (f : List ℕ) {w : ℕ} {x y z : List ℕ} → length f ≡ 256 → w ≡ without_debug_bit (get_or f 7 0)
+    → Filled (set f 7 w) 8 32 x → Filled (put_mid 8 32 (set f 7 w) x) 72 32 y → Filled (put_mid 72 32 (put_mid 8 32 (set f 7 w) x) y) 136 56 z
+    → put_mid 136 56 (put_mid 72 32 (put_mid 8 32 (set f 7 w) x) y) z ≡ masked_header f
 unfolding masked_header
-masked-by f {w = w} l ea ew eb ec ed =
-    let n0 : length (part 0 7 f) ≡ 7 = length_part f 0 7 (omega arith) in
-    let n1 : length (part 40 32 f) ≡ 32 = length_part f 40 32 (omega arith) in
-    let n2 : length (part 104 32 f) ≡ 32 = length_part f 104 32 (omega arith) in
-    let n3 : length (part 192 64 f) ≡ 64 = length_part f 192 64 (omega arith) in
-    let first = part 0 7 f ++ (w ∷ []) in
-    let second = first ++ zeros 32 ++ part 40 32 f in
-    let third = second ++ zeros 32 ++ part 104 32 f in
-    let m1 : length first ≡ 8 = omega (arith, length-append (part 0 7 f) (w ∷ [])) in
-    let m2 : length second ≡ 72 = omega (arith, length-append (first ++ zeros 32) (part 40 32 f), length-append first (zeros 32)) in
-    let m3 : length third ≡ 136 = omega (arith, length-append (second ++ zeros 32) (part 104 32 f), length-append second (zeros 32)) in
-    let e0 = copied [] (part 0 7 f) 0 0 256 249 (omega arith) (omega arith) refl ea in
-    let e1 = byte_put (part 0 7 f) w 7 248 (sym n0) e0 in
-    let e2 = copied first (part 40 32 f) 40 32 248 184 (omega arith) (omega arith) e1 eb in
-    let e3 = copied second (part 104 32 f) 104 32 184 120 (omega arith) (omega arith) e2 ec in
-    let e4 = copied third (part 192 64 f) 192 56 120 0 (omega arith) (omega arith) e3 ed in
-    e4 ∙ append-nil (third ++ zeros 56 ++ part 192 64 f) ∙ rw (append_snoc (part 0 7 f) w (zeros 32), ew, le_at-one f 7 (omega arith))
+masked-by f {w = w} {x = x} {y = y} {z = z} l ew ex ey ez =
+    let first : Masked f (set f 7 w) (part 0 7 f ++ w ∷ []) 8 = record { done = take_more_set f 7 w (omega arith); left = drop-set-lt 8 f 7 w (omega arith); long = length-set f 7 w } in
+    let second = masked-more f _ _ 8 0 32 8 40 _ refl refl (omega arith) ex first in
+    let third = masked-more f _ _ 40 32 32 72 104 _ refl refl (omega arith) ey second in
+    let all = masked-more f _ _ 104 32 56 136 192 _ refl refl (omega arith) ez third in
+    sym (take-append-drop 192 (put_mid 136 56 (put_mid 72 32 (put_mid 8 32 (set f 7 w) x) y) z))
+    ∙ rw (all.done, all.left, append-nil (part 0 7 f ++ w ∷ []), append_snoc (part 0 7 f) w (replicate 32 0), ew, le_at_one f 7 (omega arith), take_all 64 (drop 192 f) (omega (arith, length-drop 192 f)))

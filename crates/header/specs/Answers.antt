@@ -1,17 +1,12 @@
 -- What the code's header means.
-use Rattle.std.specs.Prelude.{ℕ, List, ◌++◌}
-use Rattle.reading.specs.Numbers.{bytes_le}
-use Rattle.reading.specs.Answer.{Got, refused, found}
+use Rattle.std.specs.Prelude.{ℕ, List}
 use Rattle.format.specs.Header.{Directory, Runtime, Header}
-use Rattle.base.specs.Error.{fault_of}
 use Rattle.base.specs.Digest.{digest_bytes}
 use Rattle.base.specs.Section.{place_in}
 use Rattle.header.specs.declared.FileHeader.{FileHeader}
 use Rattle.header.specs.declared.SectionDirectory.{SectionDirectory}
 use Rattle.header.specs.declared.RuntimeParameters.{RuntimeParameters}
 use Rattle.header.specs.declared.Reserved.{Reserved}
-use Rattle.header.specs.declared.HeaderAnswer.{HeaderAnswer}
-use Rattle.header.specs.declared.HeaderAnswer.TheVariants as answer
 
 abbrev pub directory_in : SectionDirectory → Directory
 directory_in d =
@@ -41,9 +36,8 @@ runtime_in r =
       memory_image_bytes = r.memory_image_bytes;
     }
 
--- the bytes of the reserved numbers, one after the other
 abbrev pub reserved_bytes : Reserved → List ℕ
-reserved_bytes r = bytes_le 8 r.0 ++ bytes_le 8 r.1 ++ bytes_le 8 r.2 ++ bytes_le 8 r.3 ++ bytes_le 4 r.4 ++ bytes_le 2 r.5
+reserved_bytes r = r.0
 
 abbrev pub header_in : FileHeader → Header
 header_in h =
@@ -60,7 +54,3 @@ header_in h =
       runtime = runtime_in h.runtime;
       reserved = reserved_bytes h.reserved;
     }
-
-abbrev pub header_from : HeaderAnswer → Got Header
-header_from (answer.Refused e) = refused (fault_of e)
-header_from (answer.Header h) = found (header_in h)

@@ -5,15 +5,15 @@ ghost use Rattle.std.specs.Prelude.{◌≡◌, ◌+◌, ◌≤◌, length};
 ghost use Rattle.format.specs.Parts.{header_size, part};
 ghost use Rattle.format.specs.Header.{place_at, directory_of, runtime_of, header_of, types_flag, without_debug_bit};
 ghost use Rattle.format.specs.Integrity.{masked_header};
+ghost use Rattle.base.specs.Answers.{got_from};
 ghost use Rattle.base.specs.Section.{place_in};
-ghost use Rattle.header.specs.Answers.{directory_in, runtime_in, reserved_bytes, header_from};
+ghost use Rattle.header.specs.Answers.{directory_in, runtime_in, reserved_bytes, header_in};
 
 use base::digest::{Digest, digest_at};
 use base::error::ContainerError;
 pub use base::section::HEADER_SIZE;
 use base::section::Section;
-use lent::copy;
-use reading::{u8_at, u16_at, u32_at, u64_at};
+use reading::{u8_at, u16_at, u32_at};
 
 // "IPLC", last letter first.
 pub const MAGIC: u32 = 0x49504C43;
@@ -94,15 +94,9 @@ pub struct RuntimeParameters {
     pub memory_image_bytes: u16,
 }
 
-// The 38 reserved bytes as numbers, each low byte first.
+// The reserved bytes.
 #[derive(Clone, Copy)]
-pub struct Reserved(pub u64, pub u64, pub u64, pub u64, pub u32, pub u16);
-
-#[derive(Clone, Copy)]
-pub enum HeaderAnswer {
-    Refused(ContainerError),
-    Header(FileHeader),
-}
+pub struct Reserved(pub [u8; 38]);
 
 // The pair of offset and size at a place.
 fn section_at(file: &[u8], at: usize) -> Section
@@ -115,6 +109,8 @@ fn section_at(file: &[u8], at: usize) -> Section
     }
 }
 
+// Kept: seven pairs at document 01's places; a table of places would be no plainer.
+#[tactic(auto, unfolding(format::specs::Header::directory_of))]
 fn directory_at(file: &[u8]) -> SectionDirectory
     requires { header_size ≤ length file.now }
     ensures { directory_in result ≡ directory_of file.now }
@@ -130,6 +126,8 @@ fn directory_at(file: &[u8]) -> SectionDirectory
     }
 }
 
+// Kept: numbers of two widths at document 01's places; a table of places would be no plainer.
+#[tactic(auto, unfolding(format::specs::Header::runtime_of))]
 fn runtime_at(file: &[u8]) -> RuntimeParameters
     requires { header_size ≤ length file.now }
     ensures { runtime_in result ≡ runtime_of file.now }
@@ -153,32 +151,28 @@ fn reserved_at(file: &[u8]) -> Reserved
     requires { header_size ≤ length file.now }
     ensures { reserved_bytes result ≡ part 218 38 file.now }
 {
-    Reserved(
-        u64_at(file, 218),
-        u64_at(file, 226),
-        u64_at(file, 234),
-        u64_at(file, 242),
-        u32_at(file, 250),
-        u16_at(file, 254),
-    )
+    let mut bytes = [0u8; 38];
+    bytes.copy_from_slice(&file[218..HEADER_SIZE]);
+    Reserved(bytes)
 }
 
 // The header of a file.
-pub fn from_bytes(file: &[u8]) -> HeaderAnswer
-    ensures { header_from result ≡ header_of file.now }
+#[tactic(auto, unfolding(format::specs::Header::header_of))]
+pub fn from_bytes(file: &[u8]) -> Result<FileHeader, ContainerError>
+    ensures { got_from header_in result ≡ header_of file.now }
 {
     if file.len() < HEADER_SIZE {
-        return HeaderAnswer::Refused(ContainerError::ShortInput);
+        return Err(ContainerError::ShortInput);
     }
     let magic = u32_at(file, 0);
     let format_version = u16_at(file, 4);
     if magic != MAGIC {
-        return HeaderAnswer::Refused(ContainerError::InvalidMagic);
+        return Err(ContainerError::InvalidMagic);
     }
     if format_version != FORMAT_VERSION {
-        return HeaderAnswer::Refused(ContainerError::UnsupportedVersion);
+        return Err(ContainerError::UnsupportedVersion);
     }
-    HeaderAnswer::Header(FileHeader {
+    Ok(FileHeader {
         magic,
         format_version,
         profile: u8_at(file, 6),
@@ -197,38 +191,24 @@ pub fn from_bytes(file: &[u8]) -> HeaderAnswer
 pub fn has_types(flags: u8) -> bool
     ensures { result ≡ types_flag flags }
 {
-    flags / FLAG_HAS_TYPE_SECTION % 2 == 1
+    flags & FLAG_HAS_TYPE_SECTION != 0
 }
 
 // The flags with the debug bit cleared.
 pub fn without_debug_bit(flags: u8) -> u8
     ensures { result ≡ without_debug_bit flags }
 {
-    flags - FLAG_HAS_DEBUG_SECTION * (flags / FLAG_HAS_DEBUG_SECTION % 2)
+    flags & !FLAG_HAS_DEBUG_SECTION
 }
 
 // The header as the content hash covers it: the debug bit cleared, both hashes and the directory zeroed.
 pub fn masked(header: &[u8; HEADER_SIZE]) -> [u8; HEADER_SIZE]
     ensures { result ≡ masked_header header.now }
 {
-    let bytes = &header[..];
-    let mut image = [0u8; HEADER_SIZE];
-    copy(&mut image, 0, &bytes[0..FLAGS_OFFSET]);
-    image[FLAGS_OFFSET] = without_debug_bit(bytes[FLAGS_OFFSET]);
-    copy(
-        &mut image,
-        CONTENT_HASH_END,
-        &bytes[CONTENT_HASH_END..DEBUG_HASH_START],
-    );
-    copy(
-        &mut image,
-        DEBUG_HASH_END,
-        &bytes[DEBUG_HASH_END..SECTION_DIRECTORY_START],
-    );
-    copy(
-        &mut image,
-        SECTION_DIRECTORY_END,
-        &bytes[SECTION_DIRECTORY_END..HEADER_SIZE],
-    );
+    let mut image = *header;
+    image[FLAGS_OFFSET] = without_debug_bit(image[FLAGS_OFFSET]);
+    image[CONTENT_HASH_START..CONTENT_HASH_END].fill(0);
+    image[DEBUG_HASH_START..DEBUG_HASH_END].fill(0);
+    image[SECTION_DIRECTORY_START..SECTION_DIRECTORY_END].fill(0);
     image
 }

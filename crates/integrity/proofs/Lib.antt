@@ -1,3 +1,2 @@
 pub mod Strings
-pub mod Fits
 pub mod Laws

@@ -7,7 +7,7 @@ use Prim.Native.Nat.{ℕ, ◌+◌, ◌≤◌, ◌<◌}
 use native.Mathlib.Omega.{arith}
 use lib.Dec.{leb, eqb}
 use lib.ListN.{length, take}
-use borrow.Author.Tests.{le-leb, lt-leb, eqb-true, eq-eqb, ne_eqb}
+use borrow.Author.Tests.{le-leb, lt-leb, eqb-true}
 use Rattle.reading.specs.Fault.{short_input}
 use Rattle.reading.specs.Answer.{refused, found, ◌>>=◌, ◌>>◌, need}
 use Rattle.format.specs.Faults.{too_long, section_size_mismatch}
@@ -36,16 +36,6 @@ hashed-is f p = at (eqb p.size 0) (is_inside f p) (leb (p.offset + p.size) (leng
         let b : ◌≡◌ {A = Bool} true false = sym (le-leb _ _ (inside_is f p k).within) ∙ l in
         absurd (let z : ◌≡◌ {A = ℕ} 0 1 = ap (λ (y : Bool). cond y 0 1) b in omega arith)
 
--- the tests of a section
-
-pub hashable-empty : (f : List ℕ) (p : Place) → p.size ≡ 0 → true ≡ is_hashable f p
-unfolding is_hashable
-hashable-empty f p e = rw (eq-eqb p.size 0 e)
-
-pub hashable-inside : (f : List ℕ) (p : Place) → (p.size ≡ 0 → ⊥) → is_inside f p ≡ is_hashable f p
-unfolding is_hashable
-hashable-inside f p n = rw (ne_eqb p.size 0 n)
-
 -- four parts after a first
 four : (m s t u v : List ℕ) (a b c d : Bool)
     → ((need a section_size_mismatch >> found s) >>= λ s. (need b section_size_mismatch >> found t) >>= λ t. (need c section_size_mismatch >> found u) >>= λ u. (need d section_size_mismatch >> found v) >>= λ v. found (m ++ s ++ t ++ u ++ v))
@@ -69,21 +59,21 @@ module _ (f : List ℕ) (d : Directory) where
   unfolding hashed_string
   string-is = rw (hashed-is f d.tasks, hashed-is f d.types, hashed-is f d.constants, hashed-is f d.code) (four (masked_header f) (bytes_of f d.tasks) (bytes_of f d.types) (bytes_of f d.constants) (bytes_of f d.code) (is_hashable f d.tasks) (is_hashable f d.types) (is_hashable f d.constants) (is_hashable f d.code))
 
-  pub hash-long : limit < length f → refused too_long ≡ computed_content_hash f d
+  pub hash_long : limit < length f → refused too_long ≡ computed_content_hash f d
   unfolding computed_content_hash
-  hash-long h = rw (lt-leb _ _ h)
+  hash_long h = rw (lt-leb _ _ h)
 
-  pub hash-short : length f ≤ limit → length f < header_size → refused short_input ≡ computed_content_hash f d
+  pub hash_short : length f ≤ limit → length f < header_size → refused short_input ≡ computed_content_hash f d
   unfolding computed_content_hash
-  hash-short l h = rw (le-leb _ _ l, lt-leb _ _ h)
+  hash_short l h = rw (le-leb _ _ l, lt-leb _ _ h)
 
   module _ (l : length f ≤ limit) (w : header_size ≤ length f) where
-    pub hash-outside : all_hashable f d ≡ false → refused section_size_mismatch ≡ computed_content_hash f d
+    pub hash_outside : all_hashable f d ≡ false → refused section_size_mismatch ≡ computed_content_hash f d
     unfolding computed_content_hash
-    hash-outside e = rw (le-leb _ _ l, le-leb _ _ w, string-is, e)
+    hash_outside e = rw (le-leb _ _ l, le-leb _ _ w, string-is, e)
 
-    pub hash-found : all_hashable f d ≡ true → content_hash_of (take header_size f) (bytes_of f d.tasks) (bytes_of f d.types) (bytes_of f d.constants) (bytes_of f d.code) ≡ computed_content_hash f d
+    pub hash_found : all_hashable f d ≡ true → content_hash_of (take header_size f) (bytes_of f d.tasks) (bytes_of f d.types) (bytes_of f d.constants) (bytes_of f d.code) ≡ computed_content_hash f d
     unfolding computed_content_hash
-    hash-found e =
+    hash_found e =
         let k : hashed_string f d ≡ found string = string-is ∙ ap (λ (y : Bool). need y section_size_mismatch >> found string) e in
         rw (masked-first f, le-leb _ _ l, le-leb _ _ w, k) (sym (within string (hash-limit.holds f d string l k)))

@@ -2,9 +2,9 @@
 #![tactic(auto)]
 
 ghost use Rattle.std.specs.Prelude.{◌≡◌, ◌≤◌, length, take};
+ghost use Rattle.base.specs.Answers.{as_it_is, got_from};
 ghost use Rattle.base.specs.Digest.{digest_bytes};
-ghost use Rattle.base.specs.Section.{place_in, bytes_of, checked_from};
-ghost use Rattle.blake3.specs.Blake3.{hash_from};
+ghost use Rattle.base.specs.Section.{place_in, bytes_of};
 ghost use Rattle.format.specs.Parts.{header_size};
 ghost use Rattle.header.specs.Answers.{directory_in, header_in};
 ghost use Rattle.integrity.specs.Hashes.{computed_content_hash, content_hash_of, content_checked, debug_fits, is_hashable, all_hashable};
@@ -13,47 +13,38 @@ ghost use Rattle.integrity.specs.Laws.{Laws};
 use base::digest::Digest;
 pub use base::digest::{HASH_LEN, NO_HASH};
 use base::error::ContainerError;
-use base::section::{Checked, FILE_LIMIT, HEADER_SIZE, Part, Section, is_inside};
-use blake3::{HashAnswer, fed_with, finish, hash};
+use base::section::{FILE_LIMIT, HEADER_SIZE, Part, Section, is_inside};
+use blake3::{fed_with, finish, hash};
 use hasher::Hasher;
 use header::{FileHeader, SectionDirectory, masked};
-use lent::copy;
 
 // Whether a section can be hashed: it lies in the file behind the header, or its size is 0, at any offset.
+#[tactic(auto, unfolding(crate::specs::Hashes::is_hashable))]
 fn is_hashable(file: &[u8], section: Section) -> bool
     ensures { result ≡ is_hashable file.now (place_in section) }
 {
-    if section.size == 0 {
-        return true;
-    }
-    is_inside(file, section)
+    section.size == 0 || is_inside(file, section)
 }
 
 // Whether the four sections that the content hash covers can be hashed.
 fn all_hashable(file: &[u8], sections: SectionDirectory) -> bool
     ensures { result ≡ all_hashable file.now (directory_in sections) }
 {
-    if !is_hashable(file, sections.task_section) {
-        return false;
-    }
-    if !is_hashable(file, sections.type_section) {
-        return false;
-    }
-    if !is_hashable(file, sections.const_section) {
-        return false;
-    }
-    is_hashable(file, sections.code_section)
+    is_hashable(file, sections.task_section)
+        && is_hashable(file, sections.type_section)
+        && is_hashable(file, sections.const_section)
+        && is_hashable(file, sections.code_section)
 }
 
 // A section's part of the file; empty if it does not lie in the file.
 fn bytes_of(file: &[u8], section: Section) -> &[u8]
     ensures { result.now ≡ bytes_of file.now (place_in section) }
 {
-    let part = Part {
+    Part {
         offset: section.offset as usize,
         size: section.size as usize,
-    };
-    part.of(file)
+    }
+    .of(file)
 }
 
 // The header's bytes, of a file that is long enough.
@@ -62,7 +53,7 @@ fn header_of(file: &[u8]) -> [u8; HEADER_SIZE]
     ensures { result ≡ take header_size file.now }
 {
     let mut header = [0u8; HEADER_SIZE];
-    copy(&mut header, 0, &file[0..HEADER_SIZE]);
+    header.copy_from_slice(&file[..HEADER_SIZE]);
     header
 }
 
@@ -74,8 +65,8 @@ pub fn content_hash_of(
     type_section: &[u8],
     const_section: &[u8],
     code_section: &[u8],
-) -> HashAnswer
-    ensures { hash_from result ≡ content_hash_of header.now task_table.now type_section.now const_section.now code_section.now }
+) -> Result<Digest, ContainerError>
+    ensures { got_from digest_bytes result ≡ content_hash_of header.now task_table.now type_section.now const_section.now code_section.now }
 {
     let image = masked(header);
     let state = fed_with(Hasher::new(), &image);
@@ -86,17 +77,18 @@ pub fn content_hash_of(
 }
 
 // The content hash of a file, with its sections at the places in `sections`, which are not trusted.
-pub fn content_hash(file: &[u8], sections: SectionDirectory) -> HashAnswer
-    ensures { hash_from result ≡ computed_content_hash file.now (directory_in sections) }
+#[tactic(auto, using(crate::proofs::Strings::hash_long, crate::proofs::Strings::hash_short, crate::proofs::Strings::hash_outside))]
+pub fn content_hash(file: &[u8], sections: SectionDirectory) -> Result<Digest, ContainerError>
+    ensures { got_from digest_bytes result ≡ computed_content_hash file.now (directory_in sections) }
 {
     if file.len() > FILE_LIMIT {
-        return HashAnswer::Refused(ContainerError::TooLong);
+        return Err(ContainerError::TooLong);
     }
     if file.len() < HEADER_SIZE {
-        return HashAnswer::Refused(ContainerError::ShortInput);
+        return Err(ContainerError::ShortInput);
     }
     if !all_hashable(file, sections) {
-        return HashAnswer::Refused(ContainerError::SectionSizeMismatch);
+        return Err(ContainerError::SectionSizeMismatch);
     }
     let header = header_of(file);
     content_hash_of(
@@ -109,34 +101,29 @@ pub fn content_hash(file: &[u8], sections: SectionDirectory) -> HashAnswer
 }
 
 // Whether the header's content hash is that of the file; an all-zero hash is not checked.
-pub fn check_content_hash(file: &[u8], header: FileHeader) -> Checked
-    ensures { checked_from result ≡ content_checked file.now (header_in header) }
+#[tactic(auto, unfolding(crate::specs::Hashes::content_checked))]
+pub fn check_content_hash(file: &[u8], header: FileHeader) -> Result<(), ContainerError>
+    ensures { got_from as_it_is result ≡ content_checked file.now (header_in header) }
 {
     if header.content_hash.is_zero() {
-        return Checked::Good;
+        return Ok(());
     }
-    match content_hash(file, header.sections) {
-        HashAnswer::Refused(e) => Checked::Refused(e),
-        HashAnswer::Digest(d) => {
-            if d.equals(header.content_hash) {
-                return Checked::Good;
-            }
-            Checked::Refused(ContainerError::ContentHashMismatch)
-        }
+    if content_hash(file, header.sections)?.equals(header.content_hash) {
+        return Ok(());
     }
+    Err(ContainerError::ContentHashMismatch)
 }
 
 // Whether a debug hash fits its section; an all-zero hash fits any section.
+#[tactic(auto, unfolding(crate::specs::Hashes::debug_fits))]
 pub fn debug_hash_matches(debug_hash: Digest, section: &[u8]) -> bool
     ensures { result ≡ debug_fits (digest_bytes debug_hash) section.now }
 {
-    if debug_hash.is_zero() {
-        return true;
-    }
-    match hash(section) {
-        HashAnswer::Refused(_) => false,
-        HashAnswer::Digest(d) => d.equals(debug_hash),
-    }
+    debug_hash.is_zero()
+        || match hash(section) {
+            Ok(d) => d.equals(debug_hash),
+            Err(_) => false,
+        }
 }
 
 // The claims of `specs/Laws.antt` hold. Empty body: the contract makes the checker prove them.

@@ -13,7 +13,6 @@ use Rattle.lent.specs.Output.{Wrote}
 use Rattle.lent.specs.Laws.{Written, Laws}
 use Rattle.lent.proofs.Writing.{wrote_none, wrote-front, wrote-rest, wrote-length, wrote-before, wrote_then}
 use Rattle.lent.proofs.Fitting.{answer_at, buffer-put, answer-none, buffer-left, puts-free}
-use Rattle.lent.proofs.Copying.{at-start}
 
 module _ {a t b : List ℕ} {at r : ℕ} (w : Wrote a at t b r) where
   there : take (length t) (drop at b) ≡ t
@@ -59,7 +58,7 @@ laws =
       chained = wrote_then;
       stays-in-front = stays-in-front;
       stays-behind = stays-behind;
-      at-start = λ {a} {t} w. (w.next ∙ zero-add (length t), w.buffer ∙ at-start a t);
+      at-start = λ {a} {t} w. (w.next ∙ zero-add (length t), w.buffer ∙ ap (λ (n : ℕ). t ++ drop n a) (zero-add (length t)));
       number-back = number-back;
       puts-fits = λ {a} {t} {b} {at} p h.
           (p.answer ∙ answer_at a at t h, record { fits = h; next = refl; buffer = p.buffer ∙ buffer-put a at t h });

@@ -1,4 +1,3 @@
 pub mod Writing
 pub mod Fitting
-pub mod Copying
 pub mod Laws

@@ -6,19 +6,14 @@ use native.Mathlib.Omega.{arith}
 use native.Mathlib.Numerals.{add-one}
 use lib.ListN.{length, get_or, take, drop, set, length-append, length-drop, take-append-drop}
 use lib.Seq.{take_all, take_at, take-take, take-suc, take-suc-set, length-take-le, drop_at, drop-set-lt, drop-drop}
+use Rattle.std.specs.Int.{bytes_low_first}
+use Rattle.reading.specs.Numbers.{bytes_le}
+use Rattle.reading.proofs.Le.{bytes_le_is, bytes-length}
 use Rattle.lent.specs.Output.{Wrote}
 
 pub wrote_none : (l : List ℕ) (at : ℕ) → at ≤ length l → Wrote l at [] l at
 wrote_none l at h =
     let e : at + 0 ≡ at = omega arith in record { fits = omega arith; next = omega arith; buffer = rw (append-nil, e) (sym (take-append-drop at l)) }
-
-pub wrote_one : (l : List ℕ) (at b : ℕ) → at < length l → Wrote l at (b ∷ []) (set l at b) (at + 1)
-wrote_one l at b h =
-    record {
-      fits = omega arith;
-      next = refl;
-      buffer = sym (take-append-drop (at + 1) (set l at b)) ∙ rw (drop-set-lt (at + 1) l at b (omega arith), add-one, take-suc-set);
-    }
 
 -- what is known of a buffer in which a text was written
 module _ {a b t : List ℕ} {at r : ℕ} (w : Wrote a at t b r) where
@@ -48,6 +43,10 @@ module _ {a b t : List ℕ} {at r : ℕ} (w : Wrote a at t b r) where
 
 pub wrote_as : {a b t u : List ℕ} {at r : ℕ} → t ≡ u → Wrote a at t b r → Wrote a at u b r
 wrote_as {a} {b} {at = at} {r = r} e w = subst (λ (x : List ℕ). Wrote a at x b r) e w
+
+-- a number, by the bytes that std's `to_le_bytes` gives
+pub wrote_number : {a b l : List ℕ} {at r : ℕ} (k n : ℕ) → l ≡ bytes_low_first 0 k n → Wrote a at l b r → (r ≡ at + k) × Wrote a at (bytes_le k n) b r
+wrote_number k n e w = let v = wrote_as (e ∙ bytes_le_is k n) w in (omega (arith, v.next, bytes-length k n), v)
 
 pub wrote_then : {a b c s t : List ℕ} {at p q : ℕ} → Wrote a at s b p → Wrote b p t c q → Wrote a at (s ++ t) c q
 wrote_then {a} {b} {c} {s} {t} {at} {p} {q} w v =

@@ -1,9 +1,7 @@
 -- What is claimed of the definitions of `Output`, of any buffer, place and text.
-use Rattle.std.specs.Prelude.{ℕ, ◌+◌, ◌≤◌, ◌<◌, ◌^◌, ◌≡◌, List, [], ◌++◌, length, take, drop}
+use Rattle.std.specs.Prelude.{ℕ, ◌+◌, ◌≤◌, ◌<◌, ◌^◌, ◌≡◌, List, [], ◌++◌, Option, Some, None, length, take, drop}
 use Rattle.reading.specs.Numbers.{le_at, bytes_le}
 use Rattle.lent.specs.Output.{Unchanged, put_at_start, Wrote, Puts, PutsRestFree}
-use Rattle.lent.specs.declared.Put.{Put}
-use Rattle.lent.specs.declared.Put.TheVariants as put
 
 -- a text `t` written at the place `at` of the buffer a, which became b
 pub record Written (a : List ℕ) (at : ℕ) (t b : List ℕ) (r : ℕ) : Type 0 where
@@ -31,6 +29,6 @@ pub record Laws : Type 0 where
   -- a number is read back from its bytes
   pub number-back : (w n : ℕ) {a b : List ℕ} {at r : ℕ} → n < 256 ^ w → Wrote a at (bytes_le w n) b r → le_at w b at ≡ n
   -- a text that is written if it fits: it fits, or it does not
-  pub puts-fits : {a t b : List ℕ} {at : ℕ} {r : Put} → Puts a at t b r → at + length t ≤ length a → (r ≡ put.At (at + length t)) × Wrote a at t b (at + length t)
-  pub puts-lacks : {a t b : List ℕ} {at : ℕ} {r : Put} → Puts a at t b r → length a < at + length t → (r ≡ put.NoRoom) × Unchanged a b
-  pub puts-rest-free : {a t b : List ℕ} {at : ℕ} {r : Put} → Puts a at t b r → PutsRestFree a at t b r
+  pub puts-fits : {a t b : List ℕ} {at : ℕ} {r : Option ℕ} → Puts a at t b r → at + length t ≤ length a → (r ≡ Some (at + length t)) × Wrote a at t b (at + length t)
+  pub puts-lacks : {a t b : List ℕ} {at : ℕ} {r : Option ℕ} → Puts a at t b r → length a < at + length t → (r ≡ None) × Unchanged a b
+  pub puts-rest-free : {a t b : List ℕ} {at : ℕ} {r : Option ℕ} → Puts a at t b r → PutsRestFree a at t b r

@@ -138,10 +138,10 @@ module _ (s : List ℕ) (at n f q : ℕ) (h : line_map_entry_size * n ≤ length
       let o : sorted k.0 ≡ false = sym (same-found (rw k.1 at z)) ∙ u in
       rw (k.1, o)
 
-  pub lookup-chosen : {t : Bool} {y x : Option Line} → found t ≡ sorted_in s at n → t ≡ true → found y ≡ choice_in s at n f q → y ≡ x → present no_line x ≡ source_line_in s at n f q
+  pub lookup-chosen : {t : Bool} {x : Option Line} → found t ≡ sorted_in s at n → t ≡ true → found x ≡ choice_in s at n f q → present no_line x ≡ source_line_in s at n f q
   unfolding line_for
-  lookup-chosen {x = x} z u c v =
+  lookup-chosen {x = x} z u c =
       let k = lines-read s at n h in
       let o : sorted k.0 ≡ true = sym (same-found (rw k.1 at z)) ∙ u in
-      let b : x ≡ choice_of f q none k.0 = sym v ∙ same-found (rw k.1 at c) in
+      let b : x ≡ choice_of f q none k.0 = same-found (rw k.1 at c) in
       rw (k.1, o, b, choice-is-best f q none k.0 o)

@@ -2,40 +2,34 @@
 use mathlib.Core.Path.{◌≡◌, refl, sym, ap, ◌∙◌}
 use mathlib.Core.Bool.{Bool, true, false}
 use mathlib.Core.List.{List, [], ◌∷◌}
-use Prim.Native.Nat.{ℕ, suc, ◌+◌, ◌*◌, ◌-◌, ◌/◌, ◌≤◌, ◌<◌}
-use native.Mathlib.Decide.{dec_le}
+use Prim.Native.Nat.{ℕ, suc, ◌+◌, ◌*◌, ◌-◌, ◌≤◌, ◌<◌}
 use native.Mathlib.Omega.{arith}
-use lib.Dec.{eqb, leb}
 use lib.ListN.{length, drop, length-drop}
 use lib.Seq.{drop-drop}
-use borrow.Author.Tests.{eq-eqb, ne_eqb, le-leb, lt-leb, leb-true, leb-false}
-use Rattle.reading.specs.Fault.{short_input}
+use borrow.Author.Tests.{leb-true, leb-false}
+use Rattle.reading.specs.Fault.{Fault, short_input}
 use Rattle.reading.specs.Numbers.{le_at}
 use Rattle.reading.specs.Reader.{Read, fault, got, next, give, many}
-use Rattle.reading.specs.Answer.{Got, refused, found, ◌>>=◌, item_of}
+use Rattle.reading.specs.Answer.{Got, refused, found, ◌>>=◌, ◌>>◌ as ◌then◌, need, item_of}
 use Rattle.reading.proofs.Reading.{number_at}
 use Rattle.reading.proofs.Width.{Fixed, fixed-give, fixed-bind, fixed_number, fixed-many, fixed-width}
 use Rattle.reading.proofs.Tables.{at_width, at-picked, index-out}
 use Rattle.format.specs.Faults.{no_entry}
 use Rattle.format.specs.Debug.{Line, line}
+use Rattle.format.proofs.Answers.{never}
 use Rattle.line_map.specs.Lookups.{line_map_entry_size, lines_fit, in_lines, line_of_map}
+use Rattle.line_map.specs.Map.{map_at}
 
--- an entry of the five numbers that stand there
-pub line_at : (s : List ℕ) (at f o i l c : ℕ) → at + line_map_entry_size ≤ length s → f ≡ le_at 2 s at → o ≡ le_at 2 s (at + 2) → i ≡ le_at 2 s (at + 4) → l ≡ le_at 2 s (at + 6) → c ≡ le_at 2 s (at + 8)
-    → line (drop at s) ≡ got (record { function = f; offset = o; file = i; line = l; column = c }) (drop (at + line_map_entry_size) s)
+pub line-at : (s : List ℕ) (at : ℕ) → at + line_map_entry_size ≤ length s → line (drop at s)
+    ≡ got (record { function = le_at 2 s at; offset = le_at 2 s (at + 2); file = le_at 2 s (at + 4); line = le_at 2 s (at + 6); column = le_at 2 s (at + 8) }) (drop (at + line_map_entry_size) s)
 unfolding line
-line_at s at f o i l c h e₁ e₂ e₃ e₄ e₅ =
+line-at s at h =
     rw (
       number_at 2 s at (at + 2) refl (omega arith),
       number_at 2 s (at + 2) (at + 4) (omega arith) (omega arith),
       number_at 2 s (at + 4) (at + 6) (omega arith) (omega arith),
       number_at 2 s (at + 6) (at + 8) (omega arith) (omega arith),
       number_at 2 s (at + 8) (at + line_map_entry_size) (omega arith) h,
-      e₁,
-      e₂,
-      e₃,
-      e₄,
-      e₅,
     )
 
 pub line-fixed : Fixed line_map_entry_size line
@@ -92,23 +86,26 @@ module _ (s : List ℕ) (at n : ℕ) where
         let p = at_width line (fixed-width line-fixed) k n (drop at s) t.0 (drop (at + line_map_entry_size * n) s) l t.1 in
         rw t.1 (sym (at-picked line p e (drop (at + line_map_entry_size * k + line_map_entry_size) s) (rw drop-drop r) no_entry))
 
--- the code's test: a place past the section's end, and one within it
 module _ (s : List ℕ) (at n : ℕ) where
-  pub fit-past : length s < at → eqb n 0 ≡ lines_fit s at n
-  fit-past h = go (dec_le n 0)
-    where
-      go : Dec (n ≤ 0) → eqb n 0 ≡ lines_fit s at n
-      go (yes l) = rw (eq-eqb n 0 (omega arith), le-leb (line_map_entry_size * n) (length s - at) (omega arith))
-      go (no l) = rw (ne_eqb n 0 (λ z. omega arith), lt-leb (line_map_entry_size * n) (length s - at) (omega arith))
+  -- the map of a place, by whether the section holds it
+  abbrev map_when : Bool → Got (List ℕ × ℕ × ℕ)
+  map_when b = need b short_input then found (s, at, n)
 
-  pub fit-within : leb n ((length s - at) / line_map_entry_size) ≡ lines_fit s at n
-  fit-within = go (dec_le (line_map_entry_size * n) (length s - at))
+  pub map-is : (m : List ℕ × ℕ × ℕ) → found m ≡ map_at s at n → (s ≡ m.0) × (at ≡ m.1) × (n ≡ m.2)
+  map-is m e = go (lines_fit s at n) e
     where
-      go : Dec (line_map_entry_size * n ≤ length s - at) → leb n ((length s - at) / line_map_entry_size) ≡ lines_fit s at n
-      go (yes l) = rw (le-leb n ((length s - at) / line_map_entry_size) (omega arith), le-leb (line_map_entry_size * n) (length s - at) l)
-      go (no l) = rw (lt-leb n ((length s - at) / line_map_entry_size) (omega arith), lt-leb (line_map_entry_size * n) (length s - at) (omega arith))
+      go : (b : Bool) → found m ≡ map_when b → (s ≡ m.0) × (at ≡ m.1) × (n ≡ m.2)
+      go true e = (cc, cc, cc)
+      go false e = never (sym e)
 
-  -- what follows from it
+  pub in-refused : {B : Type 0} (pick : List Line → Got B) (f : Fault) → refused f ≡ map_at s at n → refused f ≡ in_lines s at n pick
+  in-refused pick f e = go (lines_fit s at n) refl e
+    where
+      go : (b : Bool) → lines_fit s at n ≡ b → refused f ≡ map_when b → refused f ≡ in_lines s at n pick
+      go true i e = never e
+      go false i e = let z : f ≡ short_input = cc in ap refused z ∙ in-short s at n pick (leb-false _ _ i)
+
+  -- what its test tells
   pub fit-told : {r : Bool} → r ≡ lines_fit s at n → r ≡ true → line_map_entry_size * n ≤ length s - at
   fit-told e t = leb-true _ _ (sym e ∙ t)
 

@@ -1,17 +1,16 @@
 -- The order test over the map's bytes: what is left behind an entry decides.
-use mathlib.Core.Path.{◌≡◌, refl, sym, ap, ◌∙◌}
+use mathlib.Core.Path.{◌≡◌, refl, sym, ◌∙◌}
 use mathlib.Core.Bool.{Bool, true, false}
 use mathlib.Core.List.{List, ◌∷◌}
 use Prim.Native.Nat.{ℕ, ◌+◌, ◌*◌, ◌-◌, ◌≤◌, ◌<◌}
-use native.Mathlib.Decide.{dec_le}
 use native.Mathlib.Omega.{arith}
 use lib.ListN.{length, drop}
 use Rattle.reading.specs.Reader.{got}
 use Rattle.reading.specs.Answer.{Got, found}
 use Rattle.format.specs.Debug.{Line, line}
 use Rattle.format.specs.Lines.{in_order, sorted}
-use Rattle.line_map.specs.Lookups.{line_map_entry_size, in_lines, sorted_in, is_true, is_sorted}
-use Rattle.line_map.proofs.Entries.{lines-read, in-short, in-none, in-any, in-more}
+use Rattle.line_map.specs.Lookups.{line_map_entry_size, in_lines, sorted_in}
+use Rattle.line_map.proofs.Entries.{in-none, in-any, in-more}
 
 -- whether `last` and the `n` entries from the place `p` on are sorted
 abbrev pub sorted_behind : Line → List ℕ → ℕ → ℕ → Got Bool
@@ -47,15 +46,3 @@ module _ (s : List ℕ) (at n : ℕ) where
       sorted-not l o =
           sym (in-any s (at + line_map_entry_size * (i + 1)) (n - (i + 1)) (λ es. found false) (found false) (omega arith) (λ es. refl))
           ∙ step (λ es. found false) (λ es. rw o)
-
--- what follows from the order test
-module _ (s : List ℕ) (at n : ℕ) {r : Bool} (is : r ≡ is_sorted s at n) where
-  pub sorted-found : line_map_entry_size * n ≤ length s - at → found r ≡ sorted_in s at n
-  sorted-found h = let k = lines-read s at n h in rw (is, k.1)
-
-  pub sorted-fits : r ≡ true → line_map_entry_size * n ≤ length s - at
-  sorted-fits t = go (dec_le (line_map_entry_size * n) (length s - at))
-    where
-      go : Dec (line_map_entry_size * n ≤ length s - at) → line_map_entry_size * n ≤ length s - at
-      go (yes l) = l
-      go (no l) = let e : false ≡ true = ap is_true (in-short s at n (λ es. found (sorted es)) (omega arith)) ∙ sym is ∙ t in let z : ◌≡◌ {A = ℕ} 0 1 = cc in omega arith

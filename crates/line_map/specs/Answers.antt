@@ -1,16 +1,8 @@
 -- What the code's entries and answers mean.
+use Rattle.std.specs.Prelude.{Option as Maybe, Some, None}
 use Rattle.std.proofs.Math.Option.{Option, none, some}
-use Rattle.reading.specs.Answer.{Got, refused, found}
-use Rattle.reading.specs.Places.{Next, ends, faulty, entry}
 use Rattle.format.specs.Debug.{Line}
-use Rattle.base.specs.Error.{fault_of}
 use Rattle.line_map.specs.declared.LineMapEntry.{LineMapEntry}
-use Rattle.line_map.specs.declared.LineAnswer.{LineAnswer}
-use Rattle.line_map.specs.declared.LineAnswer.TheVariants as answer
-use Rattle.line_map.specs.declared.LineNext.{LineNext}
-use Rattle.line_map.specs.declared.LineNext.TheVariants as next
-use Rattle.line_map.specs.declared.MaybeLine.{MaybeLine}
-use Rattle.line_map.specs.declared.MaybeLine.TheVariants as maybe
 
 abbrev pub line_in : LineMapEntry → Line
 line_in e =
@@ -22,15 +14,6 @@ line_in e =
       column = e.source_column.0;
     }
 
-abbrev pub line_from : LineAnswer → Got Line
-line_from (answer.Refused e) = refused (fault_of e)
-line_from (answer.Entry e) = found (line_in e)
-
-abbrev pub line_next_from : LineNext → Next Line
-line_next_from next.End = ends
-line_next_from (next.Refused e) = faulty (fault_of e)
-line_next_from (next.Entry e t) = entry (line_in e) t
-
-abbrev pub maybe_line : MaybeLine → Option Line
-maybe_line maybe.None = none
-maybe_line (maybe.Some e) = some (line_in e)
+abbrev pub maybe_line : Maybe LineMapEntry → Option Line
+maybe_line None = none
+maybe_line (Some e) = some (line_in e)

@@ -11,12 +11,12 @@ ghost use Rattle.debug_tables.specs.Answers.{debug_counts_in, maybe_debug};
 ghost use Rattle.listing.specs.Laws.{AllLaws};
 
 use base::error::ContainerError;
-use debug_tables::{DebugCounts, MaybeDebug};
+use debug_tables::DebugCounts;
 use header::FileHeader;
-use lent::{Put, put_text};
+use lent::put_text;
 use text::{put_dash_line, put_line};
 
-pub fn put_container(out: &mut [u8], at: usize, h: FileHeader) -> Put
+pub fn put_container(out: &mut [u8], at: usize, h: FileHeader) -> Option<usize>
     ensures { Puts out.old at (container_line (header_in h)) out.new result }
 {
     let ns = [h.format_version as u64, h.profile as u64, h.flags as u64];
@@ -24,7 +24,7 @@ pub fn put_container(out: &mut [u8], at: usize, h: FileHeader) -> Put
 }
 
 // The counts of the debug tables.
-fn put_counts(out: &mut [u8], at: usize, c: DebugCounts) -> Put
+fn put_counts(out: &mut [u8], at: usize, c: DebugCounts) -> Option<usize>
     ensures { Puts out.old at (debug_line (some (debug_counts_in c))) out.new result }
 {
     let ns = [
@@ -38,29 +38,29 @@ fn put_counts(out: &mut [u8], at: usize, c: DebugCounts) -> Put
     put_line(out, at, b"debug", &ns)
 }
 
-fn put_no_debug(out: &mut [u8], at: usize) -> Put
+fn put_no_debug(out: &mut [u8], at: usize) -> Option<usize>
     ensures { Puts out.old at (debug_line none) out.new result }
 {
     put_text(out, at, b"debug none\n")
 }
 
-pub fn put_debug(out: &mut [u8], at: usize, debug: MaybeDebug) -> Put
+pub fn put_debug(out: &mut [u8], at: usize, debug: Option<DebugCounts>) -> Option<usize>
     ensures { Puts out.old at (debug_line (maybe_debug debug)) out.new result }
 {
     match debug {
-        MaybeDebug::None => put_no_debug(out, at),
-        MaybeDebug::Some(c) => put_counts(out, at, c),
+        None => put_no_debug(out, at),
+        Some(c) => put_counts(out, at, c),
     }
 }
 
-pub fn put_end(out: &mut [u8], at: usize) -> Put
+pub fn put_end(out: &mut [u8], at: usize) -> Option<usize>
     ensures { Puts out.old at end_line out.new result }
 {
     put_text(out, at, b"end\n")
 }
 
 // A refusal: its number, and its values, or a dash if it has none.
-pub fn put_refused(out: &mut [u8], at: usize, e: ContainerError) -> Put
+pub fn put_refused(out: &mut [u8], at: usize, e: ContainerError) -> Option<usize>
     ensures { Puts out.old at (refused_line (fault_of e)) out.new result }
 {
     let number = e.number() as u64;

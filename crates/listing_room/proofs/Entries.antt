@@ -18,7 +18,7 @@ use Rattle.format.specs.Constants.{is_number, kept_of, size_fits, constant}
 use Rattle.format.specs.Code.{function}
 use Rattle.format.specs.Debug.{line}
 use Rattle.text.specs.Text.{ascii, ended, hex_or_dash}
-use Rattle.text.proofs.Parts.{hex-most}
+use Rattle.text.proofs.Parts.{hex_most}
 use Rattle.entry_lines.specs.Lines.{task_line, program_line, fb_type_line, field_line, sized_line, array_line, user_fb_line, kept_bytes, constant_line, function_line, line_line}
 use Rattle.listing.specs.Listing.{each, fb_type_lines}
 use Rattle.listing_room.proofs.Short.{Few, spaced, ended-few}
@@ -137,7 +137,7 @@ costs-constant i h =
       arith,
       ended-few (ascii "constant") (i ∷ k ∷ []) (ascii " ") (5 ∷ 1 ∷ []) (omega arith),
       kept-short k body (length s),
-      hex-most e (2 * length e + 1) (omega arith) (omega arith),
+      hex_most e (2 * length e + 1) (omega arith) (omega arith),
       length-append (ended (ascii "constant") (i ∷ k ∷ []) (ascii " ") ++ hex_or_dash e) (ascii "\n"),
       length-append (ended (ascii "constant") (i ∷ k ∷ []) (ascii " ")) (hex_or_dash e),
     )

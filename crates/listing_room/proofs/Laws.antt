@@ -27,10 +27,10 @@ use Rattle.format.proofs.ProgramLimit.{within-limit, above-limit}
 use Rattle.format.proofs.Loads.{facts, types-read, debug-read}
 use Rattle.format.proofs.Refusals.{refusals}
 use Rattle.base.specs.Error.{refusal_number, refusal_values}
+use Rattle.std.specs.Prelude.{Some}
 use Rattle.lent.specs.Output.{put_answer}
-use Rattle.lent.specs.declared.Put.TheVariants as put
 use Rattle.text.specs.Text.{ascii, digits, numbers}
-use Rattle.text.proofs.Parts.{numbers-short}
+use Rattle.text.proofs.Parts.{numbers_short}
 use Rattle.entry_lines.specs.Lines.{line_line}
 use Rattle.listing.specs.Lines.{debug_line, values_line, refused_line}
 use Rattle.listing.specs.Listing.{each, type_lines, debug_lines, listing_of}
@@ -95,7 +95,7 @@ found-short hash f b l e =
     let cs = section-short costs-constants f b d.constants l.constants k.constants in
     let fs = section-short (costs-code h.runtime.functions) f b d.code l.code k.code in
     let ds = debug-short hash f b h l.debug k.debug in
-    let c = numbers-short (h.version ∷ h.profile ∷ h.flags ∷ []) in
+    let c = numbers_short (h.version ∷ h.profile ∷ h.flags ∷ []) in
     simp length-append (omega arith)
 
 -- A refused file: a refusal has at most two values
@@ -140,9 +140,9 @@ short hash f b (refused g) e o = omega (arith, few-values o, values-short (refus
 linear : (hash : List ℕ → List ℕ) (f : List ℕ) → Bytes f → length (listing_of (load hash f)) ≤ 26 * length f + 300
 linear hash f b = short hash f b (load hash f) refl ((refusals hash).loading f)
 
-put-where-fits : (before t : List ℕ) → length t ≤ length before → put_answer before 0 t ≡ put.At (length t)
+put-where-fits : (before t : List ℕ) → length t ≤ length before → put_answer before 0 t ≡ Some (length t)
 unfolding put_answer
-put-where-fits before t h = rw (le-leb (0 + length t) (length before) (omega arith)) (ap put.At (zero-add (length t)))
+put-where-fits before t h = rw (le-leb (0 + length t) (length before) (omega arith)) (ap Some (zero-add (length t)))
 
 line-of-10 : refused_line too_long ≡ ascii "refused 10 -\n"
 unfolding numbers digits

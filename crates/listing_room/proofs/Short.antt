@@ -7,7 +7,7 @@ use native.Mathlib.Nat.{pow-succ'}
 use lib.Dec.{ltb}
 use lib.ListN.{length, length-append}
 use Rattle.text.specs.Text.{ascii, digits, decimal, numbers, ended}
-use Rattle.text.proofs.Parts.{digits-one, either-short, numbers-short}
+use Rattle.text.proofs.Parts.{digits-one, either-short, numbers_short}
 
 -- a number below 10 to the power d has at most d digits
 digits-few : (k d n : ℕ) → 0 < d → n < 10 ^ d → length (digits k n) ≤ d
@@ -44,4 +44,4 @@ ended-few word ns end ds h = omega (arith, length-append (word ++ numbers ns) en
 
 -- of any numbers
 pub ended-short : (word ns end : List ℕ) → length (ended word ns end) ≤ length word + 21 * length ns + length end
-ended-short word ns end = omega (arith, length-append (word ++ numbers ns) end, length-append word (numbers ns), numbers-short ns)
+ended-short word ns end = omega (arith, length-append (word ++ numbers ns) end, length-append word (numbers ns), numbers_short ns)

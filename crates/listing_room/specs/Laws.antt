@@ -1,10 +1,9 @@
 -- How long the listing of a file can be.
-use Rattle.std.specs.Prelude.{ℕ, ◌+◌, ◌*◌, ◌<◌, ◌≤◌, ◌≡◌, List, length, get_or}
+use Rattle.std.specs.Prelude.{ℕ, ◌+◌, ◌*◌, ◌<◌, ◌≤◌, ◌≡◌, List, Some, length, get_or}
 use Rattle.format.specs.Parts.{program_limit}
 use Rattle.format.specs.Load.{load}
 use Rattle.format.specs.Record.{for_program}
 use Rattle.lent.specs.Output.{put_answer}
-use Rattle.lent.specs.declared.Put.TheVariants as put
 use Rattle.text.specs.Text.{ascii}
 use Rattle.listing.specs.Listing.{listing_of}
 
@@ -27,7 +26,7 @@ pub record Laws (hash : List ℕ → List ℕ) : Type 0 where
   pub fits : (f : List ℕ) → AllBytes f → length (listing_of (for_program f (load hash f))) ≤ listing_room
   -- so whatever a buffer of that room holds, the text is written there, and never refused for lack of room
   pub always-put : (f before : List ℕ) → AllBytes f → listing_room ≤ length before
-      → put_answer before 0 (listing_of (for_program f (load hash f))) ≡ put.At (length (listing_of (for_program f (load hash f))))
+      → put_answer before 0 (listing_of (for_program f (load hash f))) ≡ Some (length (listing_of (for_program f (load hash f))))
 
 -- for any hash
 abbrev pub AllLaws : Type 0

@@ -3,7 +3,6 @@ use Prim.Native.Nat.{ℕ}
 use mathlib.Core.List.{List, []}
 use mathlib.Core.Option.{Option, none, some}
 use mathlib.Core.Path.{◌≡◌, refl, ap}
-use native.Mathlib.Omega.{arith}
 use lib.ListN.{get_or}
 use Rattle.format.specs.Parts.{Place, by_place}
 use Rattle.format.specs.Tasks.{task_table}
@@ -17,14 +16,14 @@ use Rattle.lookup_kinds.specs.Laws.{present, SameForLookups, Laws}
 -- of types and debug it counts only whether they are there
 types-by : (f : List ℕ) (p : Place) (t u : Option TypeCounts) → present t ≡ present u → types_by f p t ≡ types_by f p u
 types-by f p none none e = refl
-types-by f p none (some u) e = let q : ◌≡◌ {A = ℕ} 0 1 = cc in absurd (omega arith)
-types-by f p (some t) none e = let q : ◌≡◌ {A = ℕ} 0 1 = cc in absurd (omega arith)
+types-by f p none (some u) e = cc
+types-by f p (some t) none e = cc
 types-by f p (some t) (some u) e = refl
 
 debug-by : (f : List ℕ) (p : Place) (d e : Option DebugCounts) → present d ≡ present e → debug_by (by_place p) f p d ≡ debug_by (by_place p) f p e
 debug-by f p none none h = refl
-debug-by f p none (some e) h = let q : ◌≡◌ {A = ℕ} 0 1 = cc in absurd (omega arith)
-debug-by f p (some d) none h = let q : ◌≡◌ {A = ℕ} 0 1 = cc in absurd (omega arith)
+debug-by f p none (some e) h = cc
+debug-by f p (some d) none h = cc
 debug-by f p (some d) (some e) h = refl
 
 module _ (f : List ℕ) (r s : Container) (h : SameForLookups r s) where

@@ -1,4 +1,4 @@
--- A table from an entry on: the laws of `table_from`. A loop over all entries keeps `PassedFrom`.
+-- A table from an entry on: the laws of `table_from`.
 use mathlib.Core.Path.{◌≡◌, refl, sym, ap, ◌∙◌}
 use mathlib.Core.List.{List, [], ◌∷◌, ◌++◌}
 use Prim.Native.Nat.{ℕ, zero, suc, ◌+◌, ◌-◌, ◌≤◌, ◌<◌, min}
@@ -7,16 +7,16 @@ use native.Mathlib.Decide.{dec_le}
 use native.Mathlib.Omega.{arith}
 use lib.ListN.{length, drop, length-drop}
 use borrow.Author.Tests.{eq-eqb, ne_eqb}
-use Rattle.reading.specs.Fault.{Fault}
+use Rattle.reading.specs.Fault.{Fault, short_input}
 use Rattle.reading.specs.Numbers.{le_at}
 use Rattle.reading.specs.Reader.{Read, fault, got, Reader, next, give, u16, many, counted}
 use Rattle.reading.specs.Answer.{Got, refused, found, ◌>>=◌, item_of, indexed}
-use Rattle.reading.specs.Places.{Step, stops, item, Reads, Next, ends, faulty, entry, step_of}
+use Rattle.reading.specs.Places.{stops_by, on_to, Goes, way_at, Next, ends, faulty, entry, step_of}
 use Rattle.reading.specs.Tables.{table_from}
 use Rattle.reading.specs.declared.Table.{Table}
-use Rattle.reading.proofs.Reading.{never, both, number_at}
+use Rattle.reading.proofs.Reading.{never, both, number_at, number_short}
+use Rattle.reading.proofs.Given.{goes_at}
 use Rattle.reading.proofs.Width.{width-number}
-use Rattle.reading.proofs.Passing.{Passed, passed_none, passed-all, passed-stop, passed-more, reads-told}
 use Rattle.reading.proofs.Tables.{many-length, at-walked, index-out, never-stops}
 use Rattle.reading.proofs.Local.{local-number}
 use Rattle.reading.proofs.Left.{left-all, left-again, Stays, stays-local, stays-many}
@@ -132,47 +132,34 @@ module _ {A : Type 0} (r : Reader A) where
       go (fault f) c = ap item_of (from-short (length s) 0 s f c)
       go (got n x) c = all n x c (many n r x) refl
 
--- the loop: `i` of the `n` entries behind a count are passed, the next stands at `p`, and `t` are those from the index `k` on, or from `i` on
-module _ {A : Type 0} (r : Reader A) (s : List ℕ) (n k : ℕ) where
-  pub record PassedFrom (i p : ℕ) (t : Table) : Type 0 where
-    pub all : Passed r s n 2 i p
-    pub first : Passed r s (min k n) 2 (min k i) t.at
-    pub same : i ≤ k → t.at ≡ p
-    pub count : t.count ≡ n - min k i
+-- a table from an entry on, by how far those before it and the others reach
+module _ {A : Type 0} (r : Reader A) (s : List ℕ) (h : Stays s r) (k : ℕ) where
+  pub table_short : length s - 0 < 2 → refused short_input ≡ item_of (table_from (length s) k r s)
+  table_short l = sym (ap item_of (from-short r (length s) k s short_input (number_short 2 s (omega arith))))
 
-  pub from-none : 2 ≤ length s → PassedFrom 0 2 (record { at = 2; count = n })
-  from-none h =
-      let z : min k 0 ≡ 0 = omega arith in
-      record { all = passed_none r s n 2 h; first = rw z (passed_none r s (min k n) 2 h); same = λ l. refl; count = omega arith }
-
-  module _ (i p : ℕ) (t : Table) (l : i < n) (h : PassedFrom i p t) where
-    -- the next entry is none from the index on
-    pub from-near : (a : A) (m : ℕ) {v : Step A} → i + 1 ≤ k → v ≡ item a m → Reads r s p v → PassedFrom (i + 1) m (record { at = m; count = n - (i + 1) })
-    from-near a m b e g =
-        let q = reads-told r s p e g in
-        let z : min k i + 1 ≡ min k (i + 1) = omega arith in
-        let f = passed-more r s (min k n) 2 (min k i) t.at a m (omega arith) h.first q.0 (ap (λ (j : ℕ). r (drop j s)) (h.same (omega arith)) ∙ q.1) in
-        record { all = passed-more r s n 2 i p a m l h.all q.0 q.1; first = rw z at f; same = λ b. refl; count = omega arith }
-
-    pub from-far : (a : A) (m : ℕ) {v : Step A} → k < i + 1 → v ≡ item a m → Reads r s p v → PassedFrom (i + 1) m t
-    from-far a m b e g =
-        let q = reads-told r s p e g in
-        let z : min k i ≡ min k (i + 1) = omega arith in
-        record { all = passed-more r s n 2 i p a m l h.all q.0 q.1; first = rw z at h.first; same = λ b. absurd (omega arith); count = omega (arith, h.count) }
-
-  -- the table that the loop is over
-  module _ (w : 2 ≤ length s) (c : n ≡ le_at 2 s 0) where
+  -- `n` entries in all, `m` of them before the index `k`
+  module _ (n m : ℕ) (w : 2 ≤ length s) (c : n ≡ le_at 2 s 0) (before : m ≡ min k n) where
     count-read : u16 s ≡ got n (drop 2 s)
     count-read = rw c (number_at 2 s 0 2 refl w)
 
-    pub from-halt : (i p : ℕ) (t : Table) (f : Fault) {v : Step A} → i < n → PassedFrom i p t → v ≡ stops f → Reads r s p v → refused f ≡ item_of (table_from (length s) k r s)
-    from-halt i p t f l h e g = sym (ap item_of (from-stop r (length s) k n s (drop 2 s) count-read f (passed-stop r s n 2 i p f l h.all (reads-told r s p e g))))
+    pub table_first_err : (f : Fault) → stops_by f ≡ way_at (many m r) s 2 → refused f ≡ item_of (table_from (length s) k r s)
+    unfolding table_from
+    table_first_err f e = let g = goes_at (stays-many s m h) 2 e in rw (count-read, ← before, g)
 
-    pub from_all : (i p : ℕ) (t : Table) → n ≤ i → PassedFrom i p t → found t ≡ item_of (table_from (length s) k r s)
-    from_all i p t l h =
-        let a = passed-all r s n 2 i p l h.all in
-        let b = passed-all r s (min k n) 2 (min k i) t.at (omega arith) h.first in
-        let d = length-drop t.at s in
-        let x : length s - length (drop t.at s) ≡ t.at = omega (arith, b.0) in
-        let y : n - k ≡ t.count = omega (arith, h.count) in
-        sym (ap item_of (from-whole r (length s) k n s (drop 2 s) count-read b.1.0 a.1.0 (drop t.at s) (drop p s) a.1.1 b.1.1) ∙ rw (x, y))
+    -- and `j` from there on
+    module _ (j p : ℕ) (others : j ≡ n - k) (e : on_to p ≡ way_at (many m r) s 2) where
+      passed : Goes (many m r) s 2 (on_to p)
+      passed = goes_at (stays-many s m h) 2 e
+
+      pub table_err : (f : Fault) → stops_by f ≡ way_at (many j r) s p → refused f ≡ item_of (table_from (length s) k r s)
+      unfolding table_from
+      table_err f d = let g = goes_at (stays-many s j h) p d in rw (count-read, ← before, passed.1.1, ← others, g)
+
+      pub table_ok : (q : ℕ) → on_to q ≡ way_at (many j r) s p → found (record { at = p; count = j }) ≡ item_of (table_from (length s) k r s)
+      unfolding table_from
+      table_ok q d =
+          let l = length-drop p s in
+          let i = passed.0 in
+          let z : length s - length (drop p s) ≡ p = omega arith in
+          let g = goes_at (stays-many s j h) p d in
+          rw (count-read, ← before, passed.1.1, ← others, g.1.1, z)

@@ -1,11 +1,14 @@
 -- The laws of numbers written low byte first, over any width.
-use Prim.Native.Nat.{ℕ, zero, suc, ◌+◌, ◌*◌, ◌-◌, ◌/◌, ◌^◌, ◌≤◌, ◌<◌}
+use Prim.Native.Nat.{ℕ, zero, suc, ◌+◌, ◌*◌, ◌-◌, ◌/◌, ◌%◌, ◌^◌, ◌≤◌, ◌<◌}
 use native.Mathlib.Nat.{pow-succ', mul_assoc}
+use native.Mathlib.Numerals.{sub-one}
 use native.Mathlib.Omega.{arith}
 use mathlib.Core.Path.{◌≡◌, refl, ap, ◌∙◌}
 use mathlib.Core.List.{List, [], ◌∷◌, ◌++◌}
 use lib.ListN.{length, take, drop, get_or, replicate, length-drop}
-use lib.Seq.{take-add, drop-drop, length-take-le, drop-cons, get_or-drop, take-nil}
+use lib.Seq.{drop-cons, get_or-drop, take-nil}
+use Rattle.std.specs.Int.{byte_at, bytes_low_first}
+use Rattle.std.proofs.Math.Nat.{div-div-eq-div-mul}
 use Rattle.reading.specs.Numbers.{le, le_at, bytes_le}
 
 -- the bytes behind the first `length a` weigh 256 to that power
@@ -17,15 +20,15 @@ le-append (x ∷ a) b =
     let e : 256 ^ suc (length a) * le b ≡ 256 * (256 ^ length a * le b) = rw (pow-succ', mul_assoc) in
     omega arith
 
--- a number of m + n bytes is that of its first m and that of the n behind them
-pub le_at-split : (m n : ℕ) (s : List ℕ) (at : ℕ) → at + m ≤ length s → le_at (m + n) s at ≡ le_at m s at + 256 ^ m * le_at n s (at + m)
-le_at-split m n s at h =
-    let e : length (take m (drop at s)) ≡ m = length-take-le m (drop at s) (simp length-drop (omega arith)) in
-    ap le (take-add m n (drop at s)) ∙ le-append (take m (drop at s)) (take n (drop m (drop at s))) ∙ rw (e, drop-drop)
-
-pub le_at-one : (s : List ℕ) (at : ℕ) → at < length s → le_at 1 s at ≡ get_or s at 0
+pub le_at_one : (s : List ℕ) (at : ℕ) → at < length s → le_at 1 s at ≡ get_or s at 0
 unfolding le
-le_at-one s at h = rw (drop-cons s at 0 h) (omega arith)
+le_at_one s at h = rw (drop-cons s at 0 h) (omega arith)
+
+-- and so on, byte for byte
+pub le_at_next : (k : ℕ) (s : List ℕ) (at next : ℕ) → 0 < k → at < length s → next ≡ at + 1 → le_at k s at ≡ get_or s at 0 + 256 * le_at (k - 1) s next
+unfolding le
+le_at_next zero s at next p h e = absurd (omega arith)
+le_at_next (suc k) s at next p h e = let e' : next ≡ suc at = omega arith in rw (drop-cons s at 0 h, e', sub-one)
 
 -- zeros at the end change nothing
 pub le-zeros : (n : ℕ) → le (replicate n 0) ≡ 0
@@ -96,3 +99,19 @@ le-all (suc w) n h =
     let e : 256 ^ suc w ≡ 256 * 256 ^ w = rw pow-succ' in
     let ih = le-all w (n / 256) (omega arith) in
     omega arith
+
+-- the bytes that std's `to_le_bytes` gives
+byte-is : (i n : ℕ) → byte_at i n ≡ n / 256 ^ i % 256
+byte-is zero n = omega arith
+byte-is (suc i) n = refl
+
+bytes-low : (i k n : ℕ) → bytes_low_first i k n ≡ bytes_le k (n / 256 ^ i)
+unfolding bytes_le
+bytes-low i zero n = refl
+bytes-low i (suc k) n =
+    let p : 256 ^ suc i ≡ 256 ^ i * 256 = omega (arith, pow-succ' 256 i) in
+    let e : n / 256 ^ suc i ≡ n / 256 ^ i / 256 = rw (div-div-eq-div-mul, p) in
+    rw (byte-is i n, bytes-low (suc i) k n, e)
+
+pub bytes_le_is : (k n : ℕ) → bytes_low_first 0 k n ≡ bytes_le k n
+bytes_le_is k n = let e : n / 256 ^ 0 ≡ n = omega arith in bytes-low 0 k n ∙ ap (bytes_le k) e

@@ -11,13 +11,7 @@ pub struct Table {
     pub count: usize,
 }
 
-// Widens a byte. In a function of its own the cast needs no proof at the call sites.
-fn wide(b: u8) -> u16
-    ensures { (result ≡ b) × (result < 256) }
-{
-    b as u16
-}
-
+#[tactic(auto, using(crate::proofs::Le::le_at_one))]
 pub fn u8_at(s: &[u8], at: usize) -> u8
     requires { at + 1 ≤ length s.now }
     ensures { result ≡ le_at 1 s.now at }
@@ -29,19 +23,28 @@ pub fn u16_at(s: &[u8], at: usize) -> u16
     requires { at + 2 ≤ length s.now }
     ensures { result ≡ le_at 2 s.now at }
 {
-    wide(s[at]) + 256 * wide(s[at + 1])
+    u16::from_le_bytes([s[at], s[at + 1]])
 }
 
 pub fn u32_at(s: &[u8], at: usize) -> u32
     requires { at + 4 ≤ length s.now }
     ensures { result ≡ le_at 4 s.now at }
 {
-    (u16_at(s, at) as u32) + 65536 * (u16_at(s, at + 2) as u32)
+    u32::from_le_bytes([s[at], s[at + 1], s[at + 2], s[at + 3]])
 }
 
 pub fn u64_at(s: &[u8], at: usize) -> u64
     requires { at + 8 ≤ length s.now }
     ensures { result ≡ le_at 8 s.now at }
 {
-    (u32_at(s, at) as u64) + 4294967296 * (u32_at(s, at + 4) as u64)
+    u64::from_le_bytes([
+        s[at],
+        s[at + 1],
+        s[at + 2],
+        s[at + 3],
+        s[at + 4],
+        s[at + 5],
+        s[at + 6],
+        s[at + 7],
+    ])
 }

@@ -1,78 +1,100 @@
 -- Lookups in types and in debug, by what the record says of them; the getters of constants, by what is picked from the constant.
-use mathlib.Core.Path.{◌≡◌, refl, ap, ◌∙◌}
-use mathlib.Core.Bool.{Bool, true, false, cond}
-use mathlib.Core.List.{List}
-use Prim.Native.Nat.{ℕ}
-use lib.Dec.{leb}
-use lib.ListN.{length}
+use Rattle.std.proofs.Common.{◌≡◌, ℕ, Bool, true, false, List, length, refl, sym, ap, ◌∙◌}
+use Rattle.std.specs.Prelude.{cond, leb}
+use Rattle.std.proofs.Math.Option.{Option, none, some}
 use Rattle.reading.specs.Fault.{Fault}
 use Rattle.reading.specs.Answer.{Got, refused, found, ◌>>=◌, ◌>>◌, need}
 use Rattle.format.specs.Faults.{too_long, no_array, no_debug}
 use Rattle.format.specs.Parts.{limit, Place, by_place}
 use Rattle.format.specs.Types.{TypeTables, type_tables}
 use Rattle.format.specs.Debug.{Tables}
+use Rattle.format.specs.Record.{TypeCounts, DebugCounts, Container}
 use Rattle.format.specs.Constants.{as_number, signed, as_string, char_width}
-use Rattle.format.specs.Lookups.{read_at, types_in, debug_in, constant_of, number_of, string_of, char_width_of}
-use Rattle.format.proofs.Answers.{assoc}
-use Rattle.base.specs.Section.{place_in}
-use Rattle.type_section.specs.declared.TypeCounts.{TypeCounts}
+use Rattle.format.specs.Lookups.{read_at, types_by, types_in, debug_by, debug_in, constant_of, number_of, string_of, char_width_of}
+use Rattle.format.proofs.Answers.{assoc, never, same-found}
 use Rattle.constant_pool.specs.Picks.{number_picked}
 use Rattle.constant_pool.specs.Lookups.{pool_at, constant_at, string_at, char_width_at}
-use Rattle.debug_tables.specs.declared.DebugCounts.{DebugCounts}
-use Rattle.debug_tables.specs.declared.MaybeDebug.TheVariants as maybe-debug
 use Rattle.debug_section.specs.Lookups.{debug_tables_at, starts_at}
-use Rattle.debug_tables.specs.declared.DebugTables.{DebugTables}
-use Rattle.record.specs.Starts.{debug_starts_in}
-use Rattle.record.specs.Answers.{container_in}
-use Rattle.record.specs.Absence.{absent_fault}
-use Rattle.record.specs.declared.Container.{Container}
-use Rattle.record.specs.declared.MaybeTypes.TheVariants as maybe-types
+use Rattle.debug_tables.specs.SixTags.{DebugTables}
+use Rattle.record.specs.Absence.{absent_fault, place_by, types_place, debug_place}
+use Rattle.record.specs.Starts.{debug_starts_by, debug_starts_in}
 
 refusing : {A B : Type 0} (out : Fault) (go : B → Got A) (short : Bool) → refused (cond short out too_long) ≡ ((need short too_long >> refused out) >>= go)
 refusing out go true = refl
 refusing out go false = refl
 
-module _ {A : Type 0} (f : List ℕ) (c : Container) (go : TypeTables → Got A) where
-  pub types-absent : {e : Fault} → c.types ≡ maybe-types.None → e ≡ absent_fault no_array f → refused e ≡ (types_in f (container_in c) >>= go)
-  types-absent h a = rw h (ap refused a ∙ refusing no_array go (leb (length f) limit))
+-- a lookup in types, by the place of the section
+module _ {A : Type 0} (f : List ℕ) (r : Container) (go : TypeTables → Got A) where
+  pub types_err : (e : Fault) → refused e ≡ types_place f r → refused e ≡ (types_in f r >>= go)
+  types_err e h = at r.types h
+    where
+      at : (t : Option TypeCounts) → refused e ≡ place_by no_array f r.header.directory.types t → refused e ≡ (types_by f r.header.directory.types t >>= go)
+      at none h = let z : e ≡ absent_fault no_array f = cc in ap refused z ∙ refusing no_array go (leb (length f) limit)
+      at (some c) h = never h
 
-  pub types-present : {k : TypeCounts} {y : Got A} → c.types ≡ maybe-types.Some k
-      → y ≡ (read_at f (place_in c.header.sections.type_section) type_tables >>= go) → y ≡ (types_in f (container_in c) >>= go)
-  types-present h a = rw h a
+  pub types_ok : (p : Place) (y : Got A) → found p ≡ types_place f r → y ≡ (read_at f p type_tables >>= go) → y ≡ (types_in f r >>= go)
+  types_ok p y h k = at r.types h
+    where
+      at : (t : Option TypeCounts) → found p ≡ place_by no_array f r.header.directory.types t → y ≡ (types_by f r.header.directory.types t >>= go)
+      at none h = never (sym h)
+      at (some c) h = k ∙ ap (λ (q : Place). read_at f q type_tables >>= go) (same-found h)
 
-module _ {A : Type 0} (f : List ℕ) (c : Container) (go : Tables Place → Got A) where
-  pub debug-absent : {e : Fault} → c.debug ≡ maybe-debug.None → e ≡ absent_fault no_debug f → refused e ≡ (debug_in by_place f (container_in c) >>= go)
+-- a lookup in debug
+module _ {A : Type 0} (f : List ℕ) (r : Container) (go : Tables Place → Got A) where
+  pub debug_err : (e : Fault) → refused e ≡ debug_place f r → refused e ≡ (debug_in by_place f r >>= go)
   unfolding debug_in
-  debug-absent h a = rw h (ap refused a ∙ refusing no_debug go (leb (length f) limit))
+  debug_err e h = at r.debug h
+    where
+      at : (t : Option DebugCounts) → refused e ≡ place_by no_debug f r.header.directory.debug t → refused e ≡ (debug_by (by_place r.header.directory.debug) f r.header.directory.debug t >>= go)
+      at none h = let z : e ≡ absent_fault no_debug f = cc in ap refused z ∙ refusing no_debug go (leb (length f) limit)
+      at (some c) h = never h
 
-  pub debug-present : {k : DebugCounts} {y : Got A} → c.debug ≡ maybe-debug.Some k → y ≡ (debug_tables_at f (place_in c.header.sections.debug_section) >>= go)
-      → y ≡ (debug_in by_place f (container_in c) >>= go)
+  pub debug_ok : (p : Place) (y : Got A) → found p ≡ debug_place f r → y ≡ (debug_tables_at f p >>= go) → y ≡ (debug_in by_place f r >>= go)
   unfolding debug_in
-  debug-present h a = rw h a
+  debug_ok p y h k = at r.debug h
+    where
+      at : (t : Option DebugCounts) → found p ≡ place_by no_debug f r.header.directory.debug t → y ≡ (debug_by (by_place r.header.directory.debug) f r.header.directory.debug t >>= go)
+      at none h = never (sym h)
+      at (some c) h = k ∙ ap (λ (q : Place). debug_tables_at f q >>= go) (same-found h)
+
+-- the place of the debug section is the directory's
+pub debug_is : (f : List ℕ) (r : Container) (p : Place) → found p ≡ debug_place f r → p ≡ r.header.directory.debug
+debug_is f r p h = at r.debug h
+  where
+    at : (t : Option DebugCounts) → found p ≡ place_by no_debug f r.header.directory.debug t → p ≡ r.header.directory.debug
+    at none h = never (sym h)
+    at (some c) h = same-found h
 
 -- the starts of the debug tables
-module _ (f : List ℕ) (c : Container) where
-  pub starts-absent : {e : Fault} → c.debug ≡ maybe-debug.None → e ≡ absent_fault no_debug f → refused e ≡ debug_starts_in f (container_in c)
-  starts-absent h a = rw h (ap refused a ∙ short (leb (length f) limit))
+module _ (f : List ℕ) (r : Container) where
+  pub starts_err : (e : Fault) → refused e ≡ debug_place f r → refused e ≡ debug_starts_in f r
+  starts_err e h = at r.debug h
     where
       short : (b : Bool) → ◌≡◌ {A = Got DebugTables} (refused (cond b no_debug too_long)) (need b too_long >> refused no_debug)
       short true = refl
       short false = refl
 
-  pub starts-present : {k : DebugCounts} {y : Got DebugTables} → c.debug ≡ maybe-debug.Some k
-      → y ≡ starts_at f (place_in c.header.sections.debug_section) → y ≡ debug_starts_in f (container_in c)
-  starts-present h a = rw h a
+      at : (t : Option DebugCounts) → refused e ≡ place_by no_debug f r.header.directory.debug t → refused e ≡ debug_starts_by f r.header.directory.debug t
+      at none h = let z : e ≡ absent_fault no_debug f = cc in ap refused z ∙ short (leb (length f) limit)
+      at (some c) h = never h
+
+  pub starts_ok : (p : Place) (y : Got DebugTables) → found p ≡ debug_place f r → y ≡ starts_at f p → y ≡ debug_starts_in f r
+  starts_ok p y h k = at r.debug h
+    where
+      at : (t : Option DebugCounts) → found p ≡ place_by no_debug f r.header.directory.debug t → y ≡ debug_starts_by f r.header.directory.debug t
+      at none h = never (sym h)
+      at (some c) h = k ∙ ap (starts_at f) (same-found h)
 
 -- a getter picks from the constant at an index; the lookup goes through the section's constants
 module _ (f : List ℕ) (p : Place) (i : ℕ) where
-  pub number-picked : (kind width : ℕ) → number_picked kind width (constant_at f p i) ≡ (pool_at f p >>= number_of kind width i)
-  number-picked kind width = assoc (pool_at f p) (constant_of i) (as_number kind width)
+  pub number_picked_as : (kind width : ℕ) → number_picked kind width (constant_at f p i) ≡ (pool_at f p >>= number_of kind width i)
+  number_picked_as kind width = assoc (pool_at f p) (constant_of i) (as_number kind width)
 
-  pub signed-picked : (kind width half : ℕ) → (number_picked kind width (constant_at f p i) >>= λ n. found (signed half n)) ≡ (pool_at f p >>= number_of kind width i >>= λ n. found (signed half n))
-  signed-picked kind width half = ap (λ x. x >>= λ n. found (signed half n)) (number-picked kind width)
+  pub signed_picked : (kind width half : ℕ) → (number_picked kind width (constant_at f p i) >>= λ n. found (signed half n)) ≡ (pool_at f p >>= number_of kind width i >>= λ n. found (signed half n))
+  signed_picked kind width half = ap (λ x. x >>= λ n. found (signed half n)) (number_picked_as kind width)
 
-  pub string-picked : string_at f p i ≡ (pool_at f p >>= string_of i)
-  string-picked = assoc (pool_at f p) (constant_of i) as_string
+  pub string_picked : string_at f p i ≡ (pool_at f p >>= string_of i)
+  string_picked = assoc (pool_at f p) (constant_of i) as_string
 
-  pub width-picked : char_width_at f p i ≡ (pool_at f p >>= char_width_of i)
-  width-picked = assoc (pool_at f p) (constant_of i) char_width
+  pub width_picked : char_width_at f p i ≡ (pool_at f p >>= char_width_of i)
+  width_picked = assoc (pool_at f p) (constant_of i) char_width

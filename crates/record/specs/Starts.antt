@@ -12,7 +12,7 @@ use Rattle.task_table.specs.Lookups.{tasks_at, programs_at}
 use Rattle.type_entries.specs.Starts.{fb_types_start, arrays_start, user_fbs_start}
 use Rattle.constant_pool.specs.Lookups.{start_at}
 use Rattle.code_section.specs.Lookups.{directory_at}
-use Rattle.debug_tables.specs.declared.DebugTables.{DebugTables}
+use Rattle.debug_tables.specs.SixTags.{DebugTables}
 use Rattle.debug_section.specs.Lookups.{starts_at}
 
 abbrev pub tasks_start_in : List ℕ → Container → Got Table

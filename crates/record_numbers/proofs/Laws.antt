@@ -12,7 +12,7 @@ use Rattle.record_numbers.specs.ToNumbers.{lookup_numbers, record_numbers}
 use Rattle.record_numbers.specs.FromNumbers.{number_count, most_count, most_with, most_numbers, most_of_fields, fits, record_of_first, record_of_numbers, number_at, types_flag_at, constants_place, debug_flag_at}
 use Rattle.record_numbers.specs.Laws.{kept_in_numbers, Laws}
 use Rattle.record_numbers.proofs.Mill.{mill-numbers}
-use Rattle.record_numbers.proofs.Fitting.{too_short, too-large-at, no_record, fields_fit}
+use Rattle.record_numbers.proofs.Bounds.{too_short, too-large-at, no_record, fields_fit}
 
 -- a record with these types and debug
 abbrev with-sections : Container → Option TypeCounts → Option DebugCounts → Container

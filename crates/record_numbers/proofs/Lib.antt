@@ -1,3 +1,3 @@
-pub mod Fitting
+pub mod Bounds
 pub mod Mill
 pub mod Laws

@@ -1,19 +1,25 @@
--- What the code's answer means, and what its functions do with numbers that may not fit.
-use Rattle.std.specs.Prelude.{ℕ, ◌+◌, ◌%◌, ◌≤◌, List, [], ◌∷◌, get_or}
+-- What the code's answers mean.
+use Rattle.std.specs.Prelude.{ℕ, ◌≤◌, cond, List, [], ◌∷◌}
+use Rattle.std.specs.Prelude as std
 use Rattle.std.proofs.Math.Option.{Option, none, some}
 use Rattle.format.specs.Record as format
 use Rattle.record.specs.Answers.{container_in}
-use Rattle.record_numbers.specs.FromNumbers.{most_of_fields, number_at}
-use Rattle.record_numbers.specs.declared.back.MaybeRecord.{MaybeRecord}
-use Rattle.record_numbers.specs.declared.back.MaybeRecord.TheVariants as maybe
+use Rattle.record.specs.declared.Container.{Container}
+use Rattle.record_numbers.specs.FromNumbers.{types_flag_at, debug_flag_at, number_at, most_numbers, fits}
+use Rattle.record_numbers.specs.declared.fitting.Fitting.{Fitting}
 
-abbrev pub maybe_record : MaybeRecord → Option format.Container
-maybe_record maybe.None = none
-maybe_record (maybe.Some c) = some (container_in c)
+abbrev pub maybe_record : std.Option Container → Option format.Container
+maybe_record std.None = none
+maybe_record (std.Some c) = some (container_in c)
 
--- the number at a place, cut to the bits that its field holds: of a number that fits, the number itself
-abbrev pub low_at : List ℕ → ℕ → ℕ
-low_at ns k = number_at ns k % (get_or most_of_fields k 0 + 1)
+-- numbers that fit their fields, or none
+abbrev pub maybe_fitting : std.Option Fitting → Option (List ℕ)
+maybe_fitting std.None = none
+maybe_fitting (std.Some f) = some f.n
+
+-- the numbers themselves, where they fit by their own flags
+abbrev pub fitting_of : List ℕ → Option (List ℕ)
+fitting_of ns = cond (fits (most_numbers (number_at ns types_flag_at) (number_at ns debug_flag_at)) ns) (some ns) none
 
 -- each number of a list is at most as much, and there are as many
 abbrev pub AllAtMost : List ℕ → List ℕ → Type 0

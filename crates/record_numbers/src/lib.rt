@@ -2,6 +2,7 @@
 #![tactic(auto)]
 
 pub mod back;
+mod fitting;
 
 ghost use Rattle.std.specs.Prelude.{◌≡◌, [], ◌∷◌};
 ghost use Rattle.std.proofs.Math.Option.{some};
@@ -15,10 +16,10 @@ ghost use Rattle.record_numbers.specs.FromNumbers.{most2, head_most, directory_m
 ghost use Rattle.record_numbers.specs.Answers.{AllAtMost};
 ghost use Rattle.record_numbers.specs.Laws.{Fits, Laws};
 
-use debug_tables::in_force::{MaybeRow, RowsInForce, TableRow};
-use debug_tables::{DebugCounts, MaybeDebug};
+use debug_tables::DebugCounts;
+use debug_tables::in_force::{RowsInForce, TableRow};
 use header::{FileHeader, RuntimeParameters, SectionDirectory};
-use record::{Container, MaybeTypes};
+use record::Container;
 use task_table::TaskCounts;
 use type_section::TypeCounts;
 
@@ -81,21 +82,21 @@ pub fn task_counts(t: TaskCounts) -> [u64; 3]
     ]
 }
 
-pub fn type_counts(types: MaybeTypes) -> [u64; 4]
+pub fn type_counts(types: Option<TypeCounts>) -> [u64; 4]
     ensures { result ≡ type_count_numbers (maybe_types types) }
 {
     match types {
-        MaybeTypes::None => [0, 0, 0, 0],
-        MaybeTypes::Some(t) => [1, t.fb_types as u64, t.arrays as u64, t.user_fbs as u64],
+        None => [0, 0, 0, 0],
+        Some(t) => [1, t.fb_types as u64, t.arrays as u64, t.user_fbs as u64],
     }
 }
 
-pub fn debug_counts(debug: MaybeDebug) -> [u64; 7]
+pub fn debug_counts(debug: Option<DebugCounts>) -> [u64; 7]
     ensures { result ≡ debug_count_numbers (maybe_debug debug) }
 {
     match debug {
-        MaybeDebug::None => [0, 0, 0, 0, 0, 0, 0],
-        MaybeDebug::Some(d) => [
+        None => [0, 0, 0, 0, 0, 0, 0],
+        Some(d) => [
             1,
             d.lines as u64,
             d.variables as u64,
@@ -111,10 +112,9 @@ pub fn debug_counts(debug: MaybeDebug) -> [u64; 7]
 fn table_row(t: TableRow) -> [u64; 3]
     ensures { result ≡ table_row_numbers (table_row_in t) }
 {
-    let row = t.row;
-    match row {
-        MaybeRow::None => [0, 0, t.replaced as u64],
-        MaybeRow::At(i) => [1, i as u64, t.replaced as u64],
+    match t.row {
+        None => [0, 0, t.replaced as u64],
+        Some(i) => [1, i as u64, t.replaced as u64],
     }
 }
 
@@ -122,16 +122,17 @@ fn table_row(t: TableRow) -> [u64; 3]
 pub fn in_force(u: RowsInForce) -> [u64; 18]
     ensures { result ≡ in_force_numbers (rows_in_force u) }
 {
-    let a = table_row(u.lines);
-    let b = table_row(u.variables);
-    let c = table_row(u.functions);
-    let d = table_row(u.strings);
-    let e = table_row(u.files);
-    let f = table_row(u.enumerations);
-    [
-        a[0], a[1], a[2], b[0], b[1], b[2], c[0], c[1], c[2], d[0], d[1], d[2], e[0], e[1], e[2],
-        f[0], f[1], f[2],
-    ]
+    let rows = [
+        table_row(u.lines),
+        table_row(u.variables),
+        table_row(u.functions),
+        table_row(u.strings),
+        table_row(u.files),
+        table_row(u.enumerations),
+    ];
+    let mut all = [0; 18];
+    all.copy_from_slice(rows.as_flattened());
+    all
 }
 
 // The numbers of every record fit their fields. Empty bodies: the contracts make the checker prove them.
@@ -155,12 +156,12 @@ fn some_types_fit(t: TypeCounts)
     ensures { AllAtMost (type_count_most most2) (type_count_numbers (some (type_counts_in t))) }
 {}
 
-fn type_counts_fit(types: MaybeTypes)
+fn type_counts_fit(types: Option<TypeCounts>)
     ensures { AllAtMost (type_count_most most2) (type_count_numbers (maybe_types types)) }
 {
     match types {
-        MaybeTypes::None => {}
-        MaybeTypes::Some(t) => some_types_fit(t),
+        None => {}
+        Some(t) => some_types_fit(t),
     }
 }
 
@@ -172,27 +173,25 @@ fn some_debug_fits(d: DebugCounts)
     ensures { AllAtMost (debug_count_most most2) (debug_count_numbers (some (debug_counts_in d))) }
 {}
 
-fn debug_counts_fit(debug: MaybeDebug)
+fn debug_counts_fit(debug: Option<DebugCounts>)
     ensures { AllAtMost (debug_count_most most2) (debug_count_numbers (maybe_debug debug)) }
 {
     match debug {
-        MaybeDebug::None => {}
-        MaybeDebug::Some(d) => some_debug_fits(d),
+        None => {}
+        Some(d) => some_debug_fits(d),
     }
 }
 
 pub fn numbers_fit(c: Container)
     ensures { Fits (container_in c) }
 {
-    let types = c.types;
-    let debug = c.debug;
     head_fits(c.header);
     directory_fits(c.header.sections);
     runtime_fits(c.header.runtime);
     task_counts_fit(c.tasks);
-    type_counts_fit(types);
+    type_counts_fit(c.types);
     constants_fit(c.constants);
-    debug_counts_fit(debug);
+    debug_counts_fit(c.debug);
 }
 
 // The laws of `specs/Laws.antt` hold. Empty body: the contract makes the checker prove them.

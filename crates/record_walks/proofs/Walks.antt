@@ -32,7 +32,7 @@ use Rattle.constant_pool.proofs.Walks.{laws as constant-laws}
 use Rattle.code_section.specs.Lookups.{next_function_at}
 use Rattle.code_section.proofs.Entries.{laws as code_laws}
 use Rattle.debug_entries.specs.Answers.{entry_of, enumeration_entry}
-use Rattle.debug_tables.specs.declared.DebugTables.{DebugTables}
+use Rattle.debug_tables.specs.SixTags.{DebugTables}
 use Rattle.debug_section.specs.Lookups.{debug_tables_at, starts_at}
 use Rattle.debug_section.proofs.Laws.{laws as section-laws}
 use Rattle.debug_walks.specs.Steps.{debug_step_at}

@@ -17,7 +17,7 @@ use Rattle.type_section.specs.Lookups.{next_fb_type_at, next_field_at, next_arra
 use Rattle.constant_pool.specs.Lookups.{next_constant_at}
 use Rattle.code_section.specs.Lookups.{next_function_at}
 use Rattle.debug_entries.specs.Answers.{entry_of, enumeration_entry}
-use Rattle.debug_tables.specs.declared.DebugTables.{DebugTables}
+use Rattle.debug_tables.specs.SixTags.{DebugTables}
 use Rattle.debug_walks.specs.Steps.{debug_step_at}
 use Rattle.record.specs.Starts.{tasks_start_in, programs_start_in, fb_types_start_in, arrays_start_in, user_fbs_start_in, constants_start_in, functions_start_in, debug_starts_in}
 

@@ -38,7 +38,7 @@ use Rattle.constant_pool.proofs.Walks as constant-pool
 use Rattle.code_section.proofs.Entries as code-section
 use Rattle.debug_section.specs.Lookups.{debug_tables_at, starts_at}
 use Rattle.debug_section.proofs.Parts.{tables-refused, tables-stand}
-use Rattle.debug_tables.specs.declared.DebugTables.{DebugTables}
+use Rattle.debug_tables.specs.SixTags.{DebugTables}
 use Rattle.debug_walks.specs.Steps.{debug_step_at}
 use Rattle.debug_walks.proofs.Walks as debug-walks
 use Rattle.record.specs.Starts.{tasks_start_in, programs_start_in, fb_types_start_in, arrays_start_in, user_fbs_start_in, constants_start_in, functions_start_in, debug_starts_by}

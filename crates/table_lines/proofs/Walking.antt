@@ -5,10 +5,10 @@ use mathlib.Core.List.{List, [], ◌++◌, append-nil, append_assoc}
 use native.Mathlib.Omega.{arith}
 use native.Mathlib.Numerals.{add-one}
 use lib.ListN.{length, take}
+use Rattle.std.specs.Prelude.{Some, None}
 use Rattle.reading.specs.Places.{Next, ends, faulty, entry}
 use Rattle.reading.specs.declared.Table.{Table}
 use Rattle.lent.specs.Output.{Unchanged, Wrote, PutsRestFree}
-use Rattle.lent.specs.declared.Put.TheVariants as put
 use Rattle.lent.proofs.Writing.{wrote_none, wrote_then}
 use Rattle.lent.proofs.Fitting.{free-none, free-wrote, free-as, free-stop, wrote-free}
 use Rattle.line_steps.proofs.Stepping.{NoEntry}
@@ -42,7 +42,7 @@ module _ (i : ℕ) (step : ℕ → Table → Next (List ℕ)) (t : Table) where
       rw (e, m, add-one)
 
 -- a line that does not fit, and the buffer is as it was
-pub line-left : {b c l : List ℕ} {at : ℕ} → length b < at + length l → Unchanged b c → PutsRestFree b at l c put.NoRoom
+pub line-left : {b c l : List ℕ} {at : ℕ} → length b < at + length l → Unchanged b c → PutsRestFree b at l c None
 line-left {b} {c} {l} {at} h e = free-none b at l h (ap (take at) e)
 
 -- A loop over a walk: the buffer was `before` and is `after`, the text so far ends at `next`, the next entry has the index i, and `rest` is still
@@ -57,15 +57,15 @@ module _ {step : ℕ → Table → Next (List ℕ)} {before : List ℕ} {at : �
   left-start h e = record { put = []; wrote = wrote_none before at h; all = e }
 
   module _ {after : List ℕ} {i next : ℕ} {rest : Table} (l : Left step before at whole after i next rest) where
-    left-done : walk_text i step rest.count rest ≡ [] → PutsRestFree before at whole after (put.At next)
+    left-done : walk_text i step rest.count rest ≡ [] → PutsRestFree before at whole after (Some next)
     left-done e = rw (l.all, e, append-nil) (free-wrote l.wrote)
 
     -- no entry is left
-    pub left_end : rest.count ≤ 0 → PutsRestFree before at whole after (put.At next)
+    pub left_end : rest.count ≤ 0 → PutsRestFree before at whole after (Some next)
     left_end h = left-done (text-empty i step rest (omega arith))
 
     -- a step that gives none
-    pub left-none : NoEntry (step i rest) → PutsRestFree before at whole after (put.At next)
+    pub left-none : NoEntry (step i rest) → PutsRestFree before at whole after (Some next)
     left-none h = left-done (text-none i step rest rest.count h)
 
     module _ {line : List ℕ} {u : Table} (h : 0 < rest.count) (e : step i rest ≡ entry line u) where
@@ -73,7 +73,7 @@ module _ {step : ℕ → Table → Next (List ℕ)} {before : List ℕ} {at : �
       left-all = l.all ∙ rw (text-more i step rest rest.count h e) (sym (append_assoc l.put line _))
 
       -- an entry, and there is no room for its line, which is a part of the whole
-      pub left-full : {c : List ℕ} → PutsRestFree after next line c put.NoRoom → PutsRestFree before at whole c put.NoRoom
+      pub left-full : {c : List ℕ} → PutsRestFree after next line c None → PutsRestFree before at whole c None
       left-full p = free-as (sym left-all) (free-stop _ (wrote-free l.wrote p))
 
       -- an entry, and its line is written

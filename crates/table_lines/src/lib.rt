@@ -3,7 +3,8 @@
 #![tactic(auto)]
 
 ghost use Rattle.std.specs.Prelude.{◌≡◌};
-ghost use Rattle.base.specs.Section.{place_in, start_from};
+ghost use Rattle.base.specs.Answers.{as_it_is, got_from};
+ghost use Rattle.base.specs.Section.{place_in};
 ghost use Rattle.lent.specs.Output.{PutsRestFree};
 ghost use Rattle.type_entries.specs.Answers.{fb_type_head_in};
 ghost use Rattle.record.specs.Answers.{container_in};
@@ -11,15 +12,15 @@ ghost use Rattle.table_lines.specs.Walks.{entries_text, lines_start_in, fb_type_
 ghost use Rattle.table_lines.specs.Tables.{text_of, tasks_text, programs_text, fb_types_text, arrays_text, user_fbs_text, constants_text, functions_text, lines_text};
 ghost use Rattle.table_lines.specs.Laws.{Laws};
 
-use base::section::{Section, StartAnswer};
-use debug_section::StartsAnswer;
+use base::error::ContainerError;
+use base::section::Section;
 use entry_lines::put_fb_type;
-use lent::{Put, put_text};
-use line_steps::{EntryKind, PutNext, put_next};
+use lent::put_text;
+use line_steps::{EntryKind, put_next};
 use reading::Table;
 use record::Container;
 use type_entries::FbTypeDescriptor;
-use type_section::{FbTypeNext, next_fb_type};
+use type_section::next_fb_type;
 
 // The lines of a table's entries, from its first on.
 fn put_entries(
@@ -29,27 +30,22 @@ fn put_entries(
     section: Section,
     kind: EntryKind,
     first: Table,
-) -> Put
+) -> Option<usize>
     ensures { PutsRestFree out.old at (entries_text kind file.now (place_in section) first) out.new result }
 {
     if out.len() < at {
-        return Put::NoRoom;
+        return None;
     }
     let mut rest = first;
-    let mut index: usize = 0;
     let mut next = at;
-    while rest.count > 0 {
-        match put_next(out, next, file, section, kind, index, rest) {
-            PutNext::NoRoom => return Put::NoRoom,
-            PutNext::End => return Put::At(next),
-            PutNext::At(n, more) => {
-                next = n;
-                rest = more;
-                index += 1;
-            }
-        }
+    for index in 0..first.count {
+        let Some((n, more)) = put_next(out, next, file, section, kind, index, rest)? else {
+            return Some(next);
+        };
+        next = n;
+        rest = more;
     }
-    Put::At(next)
+    Some(next)
 }
 
 // A table, by where its walk starts.
@@ -59,18 +55,18 @@ fn put_from(
     file: &[u8],
     section: Section,
     kind: EntryKind,
-    start: StartAnswer,
-) -> Put
-    ensures { PutsRestFree out.old at (text_of (start_from start) (entries_text kind file.now (place_in section))) out.new result }
+    start: Result<Table, ContainerError>,
+) -> Option<usize>
+    ensures { PutsRestFree out.old at (text_of (got_from as_it_is start) (entries_text kind file.now (place_in section))) out.new result }
 {
     match start {
-        StartAnswer::Refused(_) => put_text(out, at, b""),
-        StartAnswer::Start(first) => put_entries(out, at, file, section, kind, first),
+        Err(_) => put_text(out, at, b""),
+        Ok(first) => put_entries(out, at, file, section, kind, first),
     }
 }
 
 // The tasks.
-pub fn put_tasks(out: &mut [u8], at: usize, file: &[u8], c: Container) -> Put
+pub fn put_tasks(out: &mut [u8], at: usize, file: &[u8], c: Container) -> Option<usize>
     ensures { PutsRestFree out.old at (tasks_text file.now (container_in c)) out.new result }
 {
     let start = c.tasks(file);
@@ -85,7 +81,7 @@ pub fn put_tasks(out: &mut [u8], at: usize, file: &[u8], c: Container) -> Put
 }
 
 // The program instances.
-pub fn put_programs(out: &mut [u8], at: usize, file: &[u8], c: Container) -> Put
+pub fn put_programs(out: &mut [u8], at: usize, file: &[u8], c: Container) -> Option<usize>
     ensures { PutsRestFree out.old at (programs_text file.now (container_in c)) out.new result }
 {
     let start = c.programs(file);
@@ -107,56 +103,53 @@ fn put_with_fields(
     section: Section,
     head: FbTypeDescriptor,
     fields: Table,
-) -> Put
+) -> Option<usize>
     ensures { PutsRestFree out.old at (fb_type_text file.now (place_in section) (fb_type_head_in head) fields) out.new result }
 {
-    match put_fb_type(out, at, head) {
-        Put::NoRoom => Put::NoRoom,
-        Put::At(n) => put_entries(out, n, file, section, EntryKind::Fields, fields),
-    }
+    let n = put_fb_type(out, at, head)?;
+    put_entries(out, n, file, section, EntryKind::Fields, fields)
 }
 
 // The FB types, from the first on.
-fn put_fb_entries(out: &mut [u8], at: usize, file: &[u8], section: Section, first: Table) -> Put
+fn put_fb_entries(
+    out: &mut [u8],
+    at: usize,
+    file: &[u8],
+    section: Section,
+    first: Table,
+) -> Option<usize>
     ensures { PutsRestFree out.old at (fb_entries_text file.now (place_in section) first) out.new result }
 {
     if out.len() < at {
-        return Put::NoRoom;
+        return None;
     }
     let mut rest = first;
     let mut next = at;
-    while rest.count > 0 {
+    for _i in 0..first.count {
         match next_fb_type(file, section, rest) {
-            FbTypeNext::End => return Put::At(next),
-            FbTypeNext::Refused(_) => return Put::At(next),
-            FbTypeNext::Entry(head, fields, more) => {
-                match put_with_fields(out, next, file, section, head, fields) {
-                    Put::NoRoom => return Put::NoRoom,
-                    Put::At(n) => {
-                        next = n;
-                        rest = more;
-                    }
-                }
+            Ok(None) => return Some(next),
+            Err(_) => return Some(next),
+            Ok(Some((head, fields, more))) => {
+                next = put_with_fields(out, next, file, section, head, fields)?;
+                rest = more;
             }
         }
     }
-    Put::At(next)
+    Some(next)
 }
 
 // The FB types, each followed by its fields.
-pub fn put_fb_types(out: &mut [u8], at: usize, file: &[u8], c: Container) -> Put
+pub fn put_fb_types(out: &mut [u8], at: usize, file: &[u8], c: Container) -> Option<usize>
     ensures { PutsRestFree out.old at (fb_types_text file.now (container_in c)) out.new result }
 {
     match c.fb_types(file) {
-        StartAnswer::Refused(_) => put_text(out, at, b""),
-        StartAnswer::Start(first) => {
-            put_fb_entries(out, at, file, c.header.sections.type_section, first)
-        }
+        Err(_) => put_text(out, at, b""),
+        Ok(first) => { put_fb_entries(out, at, file, c.header.sections.type_section, first) }
     }
 }
 
 // The arrays, by their indices.
-pub fn put_arrays(out: &mut [u8], at: usize, file: &[u8], c: Container) -> Put
+pub fn put_arrays(out: &mut [u8], at: usize, file: &[u8], c: Container) -> Option<usize>
     ensures { PutsRestFree out.old at (arrays_text file.now (container_in c)) out.new result }
 {
     let start = c.arrays(file);
@@ -171,7 +164,7 @@ pub fn put_arrays(out: &mut [u8], at: usize, file: &[u8], c: Container) -> Put
 }
 
 // The user FBs.
-pub fn put_user_fbs(out: &mut [u8], at: usize, file: &[u8], c: Container) -> Put
+pub fn put_user_fbs(out: &mut [u8], at: usize, file: &[u8], c: Container) -> Option<usize>
     ensures { PutsRestFree out.old at (user_fbs_text file.now (container_in c)) out.new result }
 {
     let start = c.user_fbs(file);
@@ -186,7 +179,7 @@ pub fn put_user_fbs(out: &mut [u8], at: usize, file: &[u8], c: Container) -> Put
 }
 
 // The constants, by their indices.
-pub fn put_constants(out: &mut [u8], at: usize, file: &[u8], c: Container) -> Put
+pub fn put_constants(out: &mut [u8], at: usize, file: &[u8], c: Container) -> Option<usize>
     ensures { PutsRestFree out.old at (constants_text file.now (container_in c)) out.new result }
 {
     let start = c.constants(file);
@@ -201,7 +194,7 @@ pub fn put_constants(out: &mut [u8], at: usize, file: &[u8], c: Container) -> Pu
 }
 
 // The functions.
-pub fn put_functions(out: &mut [u8], at: usize, file: &[u8], c: Container) -> Put
+pub fn put_functions(out: &mut [u8], at: usize, file: &[u8], c: Container) -> Option<usize>
     ensures { PutsRestFree out.old at (functions_text file.now (container_in c)) out.new result }
 {
     let start = c.functions(file);
@@ -216,20 +209,14 @@ pub fn put_functions(out: &mut [u8], at: usize, file: &[u8], c: Container) -> Pu
 }
 
 // Where a walk over the lines of the debug section starts.
-fn lines(file: &[u8], c: Container) -> StartAnswer
-    ensures { start_from result ≡ lines_start_in file.now (container_in c) }
+fn lines(file: &[u8], c: Container) -> Result<Table, ContainerError>
+    ensures { got_from as_it_is result ≡ lines_start_in file.now (container_in c) }
 {
-    match c.debug_tables(file) {
-        StartsAnswer::Refused(e) => StartAnswer::Refused(e),
-        StartsAnswer::Starts(starts) => {
-            let first = starts.lines;
-            StartAnswer::Start(first)
-        }
-    }
+    Ok(c.debug_tables(file)?.lines)
 }
 
 // The lines of the debug section.
-pub fn put_lines(out: &mut [u8], at: usize, file: &[u8], c: Container) -> Put
+pub fn put_lines(out: &mut [u8], at: usize, file: &[u8], c: Container) -> Option<usize>
     ensures { PutsRestFree out.old at (lines_text file.now (container_in c)) out.new result }
 {
     let start = lines(file, c);

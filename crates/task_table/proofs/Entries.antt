@@ -13,7 +13,6 @@ use Rattle.reading.specs.Answer.{refused, found, ◌>>◌ as ◌then◌, need}
 use Rattle.reading.proofs.Le.{Bytes}
 use Rattle.reading.proofs.Reading.{number_at, bytes-at}
 use Rattle.reading.proofs.Width.{Width, Needs, Fixed, needs-none, needs-bind, width-check, width-bind, width-number, fixed-give, fixed-bind, fixed-bytes, fixed_number, fixed-width}
-use Rattle.reading.proofs.Local.{Local, local-give, local-bind, local-bytes, local-number, local-check}
 use Rattle.format.specs.Faults.{invalid_task_type}
 use Rattle.format.specs.Tasks.{Task, task, program}
 use Rattle.format.proofs.Answers.{never}
@@ -52,21 +51,6 @@ task-width =
     width-bind (width-number 2) λ m.
     width-bind (width-number 2) λ o.
     width-bind (fixed-width (fixed-bytes 4)) λ r. width-check (leb k 2) (invalid_task_type k) _
-
-pub task-local : Local task
-unfolding task
-task-local =
-    local-bind (local-number 2) λ i.
-    local-bind (local-number 2) λ p.
-    local-bind (local-number 1) λ k.
-    local-bind (local-number 1) λ f.
-    local-bind (local-number 8) λ n.
-    local-bind (local-number 2) λ v.
-    local-bind (local-number 8) λ w.
-    local-bind (local-number 2) λ m.
-    local-bind (local-number 2) λ o.
-    local-bind (local-bytes 4) λ r.
-    local-bind (local-check (leb k 2) (invalid_task_type k)) λ u. local-give _
 
 -- the fields of the task at a place
 unfoldable pub fields_at : List ℕ → ℕ → Task
@@ -145,18 +129,6 @@ program-fixed =
     fixed-bind (fixed_number 2) λ f.
     fixed-bind (fixed_number 2) λ m.
     fixed-bind (fixed_number 2) λ u. fixed-give _
-
-pub program-local : Local program
-unfolding program
-program-local =
-    local-bind (local-number 2) λ i.
-    local-bind (local-number 2) λ t.
-    local-bind (local-number 2) λ e.
-    local-bind (local-number 2) λ v.
-    local-bind (local-number 2) λ n.
-    local-bind (local-number 2) λ f.
-    local-bind (local-number 2) λ m.
-    local-bind (local-number 2) λ u. local-give _
 
 pub program-whole : (s : List ℕ) (at : ℕ) → at + program_instance_entry_size ≤ length s → program (drop at s)
     ≡ got

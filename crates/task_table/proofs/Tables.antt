@@ -9,11 +9,11 @@ use Rattle.reading.specs.Fault.{Fault, short_input}
 use Rattle.reading.specs.Numbers.{le_at}
 use Rattle.reading.specs.Reader.{Read, fault, got, next, u16, give, many}
 use Rattle.reading.specs.Answer.{Got, refused, found, ◌>>=◌, item_of}
-use Rattle.reading.specs.Places.{Step, Reads, on_to, Goes, Holds, GivesFrom}
+use Rattle.reading.specs.Places.{step_at, Step, on_to, Goes, Holds, GivesFrom}
 use Rattle.reading.specs.declared.Table.{Table}
 use Rattle.reading.proofs.Reading.{both, number_at}
 use Rattle.reading.proofs.Width.{Needs, width-number, needs-none, needs-bind, fixed_number, fixed-many, fixed-at, needs-at, fixed-width}
-use Rattle.reading.proofs.Tables.{answer_by, many-length, holds_at, reaches, holds-width, holds-found, holds_fits, holds-out, at-picked}
+use Rattle.reading.proofs.Tables.{answer_by, many-length, holds_at, reaches, holds-found, holds_fits, holds-out}
 use Rattle.reading.proofs.Left.{stays-local, walk-gives}
 use Rattle.format.specs.Faults.{no_entry}
 use Rattle.format.specs.Parts.{Place, cut}
@@ -24,7 +24,9 @@ use Rattle.format.proofs.Answers.{never, same-found, refused-then, item-got}
 use Rattle.base.proofs.FileWalks.{opened, walk-gives-from}
 use Rattle.task_table.specs.Lookups.{task_table_header_size, task_entry_size, program_instance_entry_size, task_counts_inside, task_entries, program_entries, task_inside, program_inside, tasks_at, programs_at, next_task_at, next_program_at}
 use Rattle.task_table.specs.Laws.{Laws}
-use Rattle.task_table.proofs.Entries.{task-width, task-local, program-fixed, program-local}
+use Rattle.task_table.proofs.Entries.{task-width, program-fixed}
+use Rattle.reading.proofs.Given.{reads_at}
+use Rattle.format.proofs.Readers.{local-task, local-program}
 
 -- Reading the section
 
@@ -135,17 +137,16 @@ module _ (s : List ℕ) (c : TaskCounts) (e : found c ≡ task_counts_inside s) 
       pub task-fits : task_table_header_size + task_entry_size * k + task_entry_size ≤ length s
       task-fits = holds_fits task s (task_entries c) counted.table.tasks counted.tasks task-width (omega arith) k l
 
-      pub task-found : {v x : Step Task} → v ≡ x → Reads task s (task_table_header_size + task_entry_size * k) v → answer_by x ≡ task_inside s k
-      task-found d g = rw counted.reads (holds-found task s (task_entries c) counted.table.tasks counted.tasks task-width k l no_entry d g)
+      pub task-found : (x : Step Task) → x ≡ step_at task s (task_table_header_size + task_entry_size * k) → answer_by x ≡ task_inside s k
+      task-found x e = rw counted.reads (holds-found task s (task_entries c) counted.table.tasks counted.tasks task-width k l no_entry refl (reads_at (stays-local s local-task) _ e))
 
     -- the program at an index stands behind the tasks and the programs before it
     module _ (l : k < c.programs) where
       pub program-fits : task_table_header_size + task_entry_size * c.tasks + program_instance_entry_size * k + program_instance_entry_size ≤ length s
       program-fits = holds_fits program s (program_entries c) counted.table.programs counted.programs (fixed-width program-fixed) (omega arith) k l
 
-      pub program-found : (a : Program) (t : List ℕ) → program (drop (task_table_header_size + task_entry_size * c.tasks + program_instance_entry_size * k) s) ≡ got a t → found a ≡ program_inside s k
-      program-found a t d =
-          rw counted.reads (sym (at-picked program (holds-width program s (program_entries c) counted.table.programs counted.programs (fixed-width program-fixed) k l) a t d no_entry))
+      pub program-found : (x : Step Program) → x ≡ step_at program s ((program_entries c).at + program_instance_entry_size * k) → answer_by x ≡ program_inside s k
+      program-found x e = rw counted.reads (holds-found program s (program_entries c) counted.table.programs counted.programs (fixed-width program-fixed) k l no_entry refl (reads_at (stays-local s local-program) _ e))
 
 -- in a file
 module _ (f : List ℕ) (p : Place) (t : TaskTable) (e : read_at f p task_table ≡ found t) where
@@ -153,16 +154,16 @@ module _ (f : List ℕ) (p : Place) (t : TaskTable) (e : read_at f p task_table 
   stand = let g = item-got (task_table (cut f p)) t (opened f p task_table t e).reads in readable (cut f p) t g.0 g.1
 
   tasks-in : GivesFrom (tasks_at f p) (next_task_at f p) t.tasks
-  tasks-in = walk-gives-from f p task_table t e task (stays-local (cut f p) task-local) (λ v. task_entries (task_counts v)) t.tasks _ stand.tasks.reads
+  tasks-in = walk-gives-from f p task_table t e task (stays-local (cut f p) local-task) (λ v. task_entries (task_counts v)) t.tasks _ stand.tasks.reads
 
   programs-in : GivesFrom (programs_at f p) (next_program_at f p) t.programs
-  programs-in = walk-gives-from f p task_table t e program (stays-local (cut f p) program-local) (λ v. program_entries (task_counts v)) t.programs _ stand.programs.reads
+  programs-in = walk-gives-from f p task_table t e program (stays-local (cut f p) local-program) (λ v. program_entries (task_counts v)) t.programs _ stand.programs.reads
 
 pub laws : Laws
 laws =
     record {
-      tasks = λ s t rest e. walk-gives s task (stays-local s task-local) (task_entries (task_counts t)) t.tasks _ (readable s t rest e).tasks.reads;
-      programs = λ s t rest e. walk-gives s program (stays-local s program-local) (program_entries (task_counts t)) t.programs _ (readable s t rest e).programs.reads;
+      tasks = λ s t rest e. walk-gives s task (stays-local s local-task) (task_entries (task_counts t)) t.tasks _ (readable s t rest e).tasks.reads;
+      programs = λ s t rest e. walk-gives s program (stays-local s local-program) (program_entries (task_counts t)) t.programs _ (readable s t rest e).programs.reads;
       tasks_in = tasks-in;
       programs_in = programs-in;
     }

@@ -12,7 +12,7 @@ use lib.ListN.{length, get_or, get_or-append, length-append}
 use borrow.Author.Tests.{ltb-true, ltb-false, le-leb}
 use Rattle.text.specs.Text.{digits, decimal, hexes}
 use Rattle.text.specs.Laws.{is_digit, read_behind, read_decimal, Laws}
-use Rattle.text.proofs.Parts.{digits-one, digits_more, hexes-append, hexes-length}
+use Rattle.text.proofs.Parts.{digits-one, digits_more, hexes-append, hexes_length}
 
 a-digit : (d : ℕ) → d < 10 → is_digit (code "0" + d) ≡ true
 a-digit d h = rw (le-leb 48 (48 + d) (omega arith), le-leb (48 + d) 57 (omega arith))
@@ -81,6 +81,6 @@ laws =
       zero = refl;
       hex-digits = refl;
       high-first = refl;
-      hex-length = hexes-length;
+      hex-length = hexes_length;
       hex-parts = hexes-append;
     }

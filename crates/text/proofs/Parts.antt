@@ -1,15 +1,18 @@
 -- The parts of texts, and how long they are.
-use Prim.Native.Nat.{ℕ, zero, suc, ◌+◌, ◌*◌, ◌/◌, ◌%◌, ◌<◌, ◌≤◌, ◌-◌}
+use Prim.Native.Nat.{ℕ, zero, suc, ◌+◌, ◌*◌, ◌/◌, ◌%◌, ◌<◌, ◌≤◌, ◌^◌}
 use mathlib.Core.Path.{◌≡◌, refl, sym, ◌∙◌, ap}
 use mathlib.Core.Bool.{Bool, true, false, cond}
 use mathlib.Core.List.{List, [], ◌∷◌, ◌++◌, append-nil, append_assoc}
 use native.Mathlib.Omega.{arith}
-use native.Mathlib.Numerals.{add-one, sub-one}
-use borrow.Author.Tests.{lt-ltb, le-ltb}
+use native.Mathlib.Numerals.{add-one}
+use native.Mathlib.Nat.{pow-succ'}
+use borrow.Author.Tests.{lt-ltb, le-ltb, ltb-true, ltb-false}
 use Prim.Native.Char.{code}
 use lib.Dec.{ltb}
 use lib.ListN.{length, get_or, take, drop, length-append}
 use lib.Seq.{split_at, take-suc}
+use Rattle.std.specs.Fmt as fmt
+use Rattle.std.proofs.lemmas.Fmt as fmt_lemmas
 use Rattle.text.specs.Text.{ascii, digits, decimal, numbers, hexes, hex_or_dash, ended, bytes_line}
 
 -- Decimal
@@ -22,18 +25,19 @@ pub digits_more : (k n : ℕ) → 10 ≤ n → digits (suc k) n ≡ digits k (n 
 unfolding digits
 digits_more k n h = simp (le-ltb n 10 h)
 
--- the same as the code goes, at a count of digits that is not a numeral
-pub put-none : (k n : ℕ) → k ≡ 0 → digits k n ≡ []
-unfolding digits
-put-none k n e = rw e
+-- the digits that std writes
+std-digits : (z : Bool) (k n : ℕ) → ltb n 10 ≡ z → n < 2 ^ 64 → (10 ≤ n → digits k (n / 10) ≡ fmt.decimal (n / 10)) → digits (suc k) n ≡ fmt.decimal n
+std-digits true k n e h rest = let l = ltb-true n 10 e in digits-one k n l ∙ sym (fmt_lemmas.decimal_digit n l)
+std-digits false k n e h rest = let l = ltb-false n 10 e in rw (digits_more k n l, rest l) (sym (fmt_lemmas.decimal_step n l h))
 
-pub put_one : (k n : ℕ) → (k ≡ 0 → ⊥) → n < 10 → digits k n ≡ (code "0" + n) ∷ []
-put_one zero n h h' = absurd (h refl)
-put_one (suc k) n h h' = digits-one k n h'
+all-digits : (k n : ℕ) → 0 < k → n < 10 ^ k → n < 2 ^ 64 → digits k n ≡ fmt.decimal n
+all-digits zero n p q h = absurd (omega arith)
+all-digits (suc zero) n p q h = std-digits (ltb n 10) zero n refl h (λ l. absurd (omega arith))
+all-digits (suc (suc k)) n p q h =
+    std-digits (ltb n 10) (suc k) n refl h (λ l. all-digits (suc k) (n / 10) (omega arith) (omega (arith, pow-succ' 10 (suc k))) (omega arith))
 
-pub put-more : (k n : ℕ) → (k ≡ 0 → ⊥) → 10 ≤ n → digits k n ≡ digits (k - 1) (n / 10) ++ ((code "0" + n % 10) ∷ [])
-put-more zero n h h' = absurd (h refl)
-put-more (suc k) n h h' = rw sub-one (digits_more k n h')
+pub std_decimal : (n : ℕ) → n < 2 ^ 64 → fmt.decimal n ≡ decimal n
+std_decimal n h = sym (all-digits 20 n (omega arith) (omega arith) h)
 
 pub either-short : (z : Bool) (k : ℕ) (s t : List ℕ) → length s ≤ k → length t ≤ k → length (cond z s t) ≤ k
 either-short true k s t h h' = h
@@ -61,9 +65,9 @@ numbers-next ns i h =
     rw (add-one, take-suc ns i 0 h) (ap length (numbers-snoc front n) ∙ length-append (numbers front) (ascii " " ++ decimal n) ∙ omega arith)
 
 -- the first i numbers and the next one are a part of the whole
-pub numbers-part : (ns : List ℕ) (i : ℕ) → i < length ns → length (numbers (take i ns)) + 1 + length (decimal (get_or ns i 0)) ≤ length (numbers ns)
+pub numbers_part : (ns : List ℕ) (i : ℕ) → i < length ns → length (numbers (take i ns)) + 1 + length (decimal (get_or ns i 0)) ≤ length (numbers ns)
 unfolding numbers
-numbers-part ns i h =
+numbers_part ns i h =
     let n = get_or ns i 0 in
     let front = take i ns in
     let rest = drop (suc i) ns in
@@ -75,10 +79,10 @@ numbers-part ns i h =
       length-append (ascii " " ++ decimal n) (numbers rest),
     )
 
-pub numbers-short : (ns : List ℕ) → length (numbers ns) ≤ 21 * length ns
+pub numbers_short : (ns : List ℕ) → length (numbers ns) ≤ 21 * length ns
 unfolding numbers
-numbers-short [] = omega arith
-numbers-short (n ∷ ns) = omega (arith, digits-short 20 n, numbers-short ns, length-append (ascii " " ++ decimal n) (numbers ns))
+numbers_short [] = omega arith
+numbers_short (n ∷ ns) = omega (arith, digits-short 20 n, numbers_short ns, length-append (ascii " " ++ decimal n) (numbers ns))
 
 -- Hexadecimal
 
@@ -87,37 +91,37 @@ unfolding hexes
 hexes-append [] ys = refl
 hexes-append (x ∷ xs) ys = rw (hexes-append xs ys)
 
-pub hexes-length : (bs : List ℕ) → length (hexes bs) ≡ 2 * length bs
+pub hexes_length : (bs : List ℕ) → length (hexes bs) ≡ 2 * length bs
 unfolding hexes
-hexes-length [] = refl
-hexes-length (b ∷ bs) = omega (arith, hexes-length bs)
+hexes_length [] = refl
+hexes_length (b ∷ bs) = omega (arith, hexes_length bs)
 
-pub hex-none : (bs : List ℕ) → length bs ≡ 0 → hex_or_dash bs ≡ ascii "-"
-hex-none [] e = refl
-hex-none (b ∷ bs) e = absurd (omega arith)
+pub hex_none : (bs : List ℕ) → length bs ≡ 0 → hex_or_dash bs ≡ ascii "-"
+hex_none [] e = refl
+hex_none (b ∷ bs) e = absurd (omega arith)
 
-pub hex-some : (bs : List ℕ) → (length bs ≡ 0 → ⊥) → hex_or_dash bs ≡ hexes bs
-hex-some [] h = absurd (h refl)
-hex-some (b ∷ bs) h = refl
+pub hex_some : (bs : List ℕ) → (length bs ≡ 0 → ⊥) → hex_or_dash bs ≡ hexes bs
+hex_some [] h = absurd (h refl)
+hex_some (b ∷ bs) h = refl
 
-pub hex-least : (bs : List ℕ) → 2 * length bs ≤ length (hex_or_dash bs)
-hex-least [] = omega arith
-hex-least (b ∷ bs) = omega (arith, hexes-length (b ∷ bs))
+pub hex_least : (bs : List ℕ) → 2 * length bs ≤ length (hex_or_dash bs)
+hex_least [] = omega arith
+hex_least (b ∷ bs) = omega (arith, hexes_length (b ∷ bs))
 
-pub hex-most : (bs : List ℕ) (n : ℕ) → 1 ≤ n → 2 * length bs ≤ n → length (hex_or_dash bs) ≤ n
-hex-most [] n h h' = h
-hex-most (b ∷ bs) n h h' = omega (arith, hexes-length (b ∷ bs))
+pub hex_most : (bs : List ℕ) (n : ℕ) → 1 ≤ n → 2 * length bs ≤ n → length (hex_or_dash bs) ≤ n
+hex_most [] n h h' = h
+hex_most (b ∷ bs) n h h' = omega (arith, hexes_length (b ∷ bs))
 
 -- Lines
 
-pub ended-length : (word ns end : List ℕ) → length (ended word ns end) ≡ length word + length (numbers ns) + length end
-ended-length word ns end = omega (arith, length-append (word ++ numbers ns) end, length-append word (numbers ns))
+pub ended_length : (word ns end : List ℕ) → length (ended word ns end) ≡ length word + length (numbers ns) + length end
+ended_length word ns end = omega (arith, length-append (word ++ numbers ns) end, length-append word (numbers ns))
 
-pub bytes-line-length : (word ns bs : List ℕ) → length (bytes_line word ns bs) ≡ length word + length (numbers ns) + (length (hex_or_dash bs) + 2)
-bytes-line-length word ns bs =
+pub bytes_line_length : (word ns bs : List ℕ) → length (bytes_line word ns bs) ≡ length word + length (numbers ns) + (length (hex_or_dash bs) + 2)
+bytes_line_length word ns bs =
     omega (
       arith,
       length-append (ended word ns (ascii " ") ++ hex_or_dash bs) (ascii "\n"),
       length-append (ended word ns (ascii " ")) (hex_or_dash bs),
-      ended-length word ns (ascii " "),
+      ended_length word ns (ascii " "),
     )

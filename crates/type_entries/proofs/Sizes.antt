@@ -8,10 +8,10 @@ use lib.Seq.{drop-drop}
 use Rattle.reading.specs.Fault.{Fault}
 use Rattle.reading.specs.Reader.{got, Reader, number, many, counted}
 use Rattle.reading.specs.Answer.{found, indexed}
-use Rattle.reading.specs.Places.{Step, item, Reads}
+use Rattle.reading.specs.Places.{item, step_at}
 use Rattle.reading.proofs.Reading.{both}
 use Rattle.reading.proofs.Width.{width-number}
-use Rattle.reading.proofs.Passing.{reads-told}
+use Rattle.reading.proofs.Given.{reads_at}
 use Rattle.reading.proofs.Made.{made-gives}
 use Rattle.reading.proofs.Tables.{cons, many-length}
 use Rattle.reading.proofs.Sizes.{Takes, takes-width, takes-counted}
@@ -20,6 +20,7 @@ use Rattle.format.specs.Lookups.{FbTypeHead, fb_type_head_of}
 use Rattle.format.proofs.Answers.{never, same-found}
 use Rattle.type_entries.specs.Answers.{fb_type_head}
 use Rattle.type_entries.specs.Starts.{count_size, field_entry_size, fb_type_head_size, array_descriptor_size, fb_type_size, fb_types_size}
+use Rattle.type_entries.specs.Stays.{fb_type_head_stays}
 use Rattle.type_entries.proofs.Entries.{field-width, array-width}
 
 pub arrays-take : Takes (λ xs. count_size + array_descriptor_size * length xs) (counted array)
@@ -48,9 +49,9 @@ fields-left s b t e =
     (moved field (sym l ∙ ap length x) z x y f.first, omega (arith, u.1, v.1, w.1))
 
 -- so a head that reads lies in the section
-pub head-room : (s : List ℕ) (at : ℕ) {h : FbTypeHead} {m : ℕ} {v : Step FbTypeHead} → v ≡ item h m → Reads fb_type_head s at v → at + fb_type_head_size ≤ length s
-head-room s at {h} {m} e g =
-    let b = made-gives fb_type_head_of (fb_type (drop at s)) h (drop m s) (reads-told fb_type_head s at e g).1 in
+pub head-room : (s : List ℕ) (at : ℕ) (h : FbTypeHead) (m : ℕ) → item h m ≡ step_at fb_type_head s at → at + fb_type_head_size ≤ length s
+head-room s at h m e =
+    let b = made-gives fb_type_head_of (fb_type (drop at s)) h (drop m s) (reads_at (fb_type_head_stays s) at e).1 in
     omega (arith, (fields-left (drop at s) b.0 (drop m s) b.1).1, length-drop at s)
 
 fb-type-takes : Takes fb_type_size fb_type

@@ -1,2 +1,3 @@
 pub mod Starts
 pub mod Answers
+pub mod Stays

@@ -3,6 +3,7 @@ use Rattle.std.specs.Prelude.{ℕ, ◌+◌, ◌*◌, List, [], ◌∷◌, length
 use Rattle.reading.specs.Answer.{Got, found, ◌>>=◌, item_of}
 use Rattle.reading.specs.declared.Table.{Table}
 use Rattle.format.specs.Types.{FbType, TypeTables, type_tables}
+use Rattle.format.specs.Lookups.{FbTypeHead}
 use Rattle.type_entries.specs.declared.Tables.{Tables}
 
 -- Sizes in bytes: a count, a field, an FB type without its fields, an array, a user FB
@@ -43,6 +44,10 @@ user_fbs_start t = record { at = 3 * count_size + fb_types_size t.fb_types + arr
 -- the fields of an FB type stand behind its head
 abbrev pub fields_start : ℕ → FbType → Table
 fields_start at b = record { at = at + fb_type_head_size; count = length b.fields }
+
+-- the same by its head
+abbrev pub head_fields : ℕ → FbTypeHead → Table
+head_fields at h = record { at = at + fb_type_head_size; count = h.field_count }
 
 abbrev pub type_starts_of : TypeTables → Tables
 type_starts_of t = record { fb_types = fb_types_start t; arrays = arrays_start t; user_fbs = user_fbs_start t }

@@ -1,22 +1,27 @@
-// The entries of the type section, each read at a place of the section `s`, and the places of its tables.
+// The entries of the type section, each read at a place of it, and the places of its tables.
 #![tactic(auto)]
 
-ghost use Rattle.std.specs.Prelude.{◌≡◌, ◌≤◌, length};
-ghost use Rattle.reading.specs.Reader.{many, counted, counted_or_none};
-ghost use Rattle.reading.specs.Places.{step_at, way_at};
-ghost use Rattle.format.specs.Types.{field, fb_type, is_string, natural_stride, stride_fits, element_char_width, array, user_fb};
-ghost use Rattle.format.specs.Lookups.{byte_size};
+ghost use Rattle.std.specs.Prelude.{◌≡◌, ◌+◌, ◌^◌, ◌≤◌, ◌<◌, length, drop, IfOk};
+ghost use Rattle.reading.specs.Reader.{counted, counted_or_none};
+ghost use Rattle.reading.specs.Answer.{item_of};
+ghost use Rattle.reading.specs.Places.{step_at};
+ghost use Rattle.format.specs.Types.{Field, field, natural_stride, stride_fits, element_char_width, Array, array, UserFb, user_fb};
+ghost use Rattle.format.specs.Lookups.{FbTypeHead, byte_size};
+ghost use Rattle.base.specs.Answers.{as_it_is, got_from, step_from};
+ghost use Rattle.base.specs.Cut.{place_of};
+ghost use Rattle.base.specs.Error.{fault_of};
 ghost use Rattle.base.specs.Small.{byte_width};
-ghost use Rattle.base.specs.Section.{checked_from, way_from};
-ghost use Rattle.type_entries.specs.Answers.{field_step, fb_type_head, fb_type_step, array_in, stride_checked, size_from, array_step, user_fb_step, table_at, table_step, type_starts_from};
-ghost use Rattle.type_entries.specs.Starts.{type_starts_in};
+ghost use Rattle.type_entries.specs.Answers.{field_in, fb_type_head_in, fb_type_head, string_width, array_in, stride_checked, user_fb_in, table_at};
+ghost use Rattle.type_entries.specs.Starts.{fb_type_head_size, head_fields, type_starts_in};
+ghost use Rattle.type_entries.specs.Stays.{field_stays, fb_type_head_stays, array_stays, user_fb_stays};
 
 use base::char_width::CharWidth;
+use base::cut::Cut;
+use base::entry::{Entry, skip};
 use base::error::ContainerError;
-use base::field_type::{FieldType, FieldTypeAnswer};
+use base::field_type::FieldType;
 use base::id_types::{FbTypeId, FunctionId};
-use base::section::{Checked, Walk};
-use base::string_layout::STRING_HEADER_BYTES;
+use base::string_layout::string_region_size;
 use reading::{Table, u8_at, u16_at, u32_at};
 
 // The bytes of the count in front of each table.
@@ -25,7 +30,7 @@ const COUNT_SIZE: usize = 2;
 pub const FIELD_ENTRY_SIZE: usize = 4;
 
 // The bytes of an FB type without its fields.
-pub const FB_TYPE_HEAD_SIZE: usize = 4;
+const FB_TYPE_HEAD_SIZE: usize = 4;
 
 pub const ARRAY_DESCRIPTOR_SIZE: usize = 12;
 
@@ -33,11 +38,6 @@ pub const USER_FB_DESCRIPTOR_SIZE: usize = 8;
 
 // The bytes of a slot of the data region.
 pub const SLOT_BYTES: u32 = 8;
-
-// The numbers of FieldType::String and FieldType::WString.
-const STRING: u8 = 6;
-
-const WSTRING: u8 = 7;
 
 // A field of an FB type.
 #[derive(Clone, Copy)]
@@ -54,6 +54,7 @@ pub struct FbTypeDescriptor {
 }
 
 // An array. The stride is the distance between the starts of neighbouring elements.
+// Kept: `element_type` is a byte, since document 01 lets an array have any, also one that is no FieldType.
 #[derive(Clone, Copy)]
 pub struct ArrayDescriptor {
     pub element_type: u8,
@@ -71,38 +72,6 @@ pub struct UserFbDescriptor {
     pub num_fields: u8,
 }
 
-// An entry read at a place, and where it ends.
-#[derive(Clone, Copy)]
-pub enum FieldStep {
-    Refused(ContainerError),
-    Entry(FieldEntry, usize),
-}
-
-#[derive(Clone, Copy)]
-pub enum FbTypeStep {
-    Refused(ContainerError),
-    Entry(FbTypeDescriptor, usize),
-}
-
-#[derive(Clone, Copy)]
-pub enum ArrayStep {
-    Refused(ContainerError),
-    Entry(ArrayDescriptor, usize),
-}
-
-#[derive(Clone, Copy)]
-pub enum UserFbStep {
-    Refused(ContainerError),
-    Entry(UserFbDescriptor, usize),
-}
-
-// A table with its count in front: where its entries start, and where it ends.
-#[derive(Clone, Copy)]
-pub enum TableStep {
-    Refused(ContainerError),
-    Entries(Table, usize),
-}
-
 // Where the entries of each table start, and their counts.
 #[derive(Clone, Copy)]
 pub struct Tables {
@@ -111,26 +80,15 @@ pub struct Tables {
     pub user_fbs: Table,
 }
 
-#[derive(Clone, Copy)]
-pub enum TypeTablesAnswer {
-    Refused(ContainerError),
-    Tables(Tables),
-}
-
-// A size in bytes.
-#[derive(Clone, Copy)]
-pub enum SizeAnswer {
-    Refused(ContainerError),
-    Bytes(u32),
-}
-
-fn is_string(element_type: u8) -> bool
-    ensures { result ≡ is_string element_type }
+// The width of the characters of a string type; None for any other type.
+fn string_width(element_type: u8) -> Option<CharWidth>
+    ensures { result ≡ string_width element_type }
 {
-    if element_type == STRING {
-        return true;
+    match FieldType::try_from(element_type) {
+        Ok(FieldType::String) => Some(CharWidth::Narrow),
+        Ok(FieldType::WString) => Some(CharWidth::Wide),
+        _ => None,
     }
-    element_type == WSTRING
 }
 
 // A string's stride may exceed the natural one; any other element's stride must equal it.
@@ -138,10 +96,10 @@ fn stride_fits(element_type: u8, element_extra: u16, element_stride: u32) -> boo
     ensures { result ≡ stride_fits element_type element_extra element_stride }
 {
     let natural = ArrayDescriptor::natural_stride(element_type, element_extra);
-    if is_string(element_type) {
-        return element_stride >= natural;
+    match string_width(element_type) {
+        Some(_) => natural <= element_stride,
+        None => natural == element_stride,
     }
-    element_stride == natural
 }
 
 impl ArrayDescriptor {
@@ -149,14 +107,10 @@ impl ArrayDescriptor {
     pub fn natural_stride(element_type: u8, element_extra: u16) -> u32
         ensures { result ≡ natural_stride element_type element_extra }
     {
-        let characters = element_extra as u32;
-        if element_type == STRING {
-            return (STRING_HEADER_BYTES as u32) + characters;
+        match string_width(element_type) {
+            Some(width) => string_region_size(element_extra, width),
+            None => SLOT_BYTES,
         }
-        if element_type == WSTRING {
-            return (STRING_HEADER_BYTES as u32) + 2 * characters;
-        }
-        SLOT_BYTES
     }
 
     // The bytes from the start of one element to the start of the next.
@@ -170,269 +124,209 @@ impl ArrayDescriptor {
     pub fn element_char_width(self) -> CharWidth
         ensures { byte_width result ≡ element_char_width (array_in self) }
     {
-        if self.element_type == WSTRING {
-            return CharWidth::Wide;
-        }
-        CharWidth::Narrow
+        string_width(self.element_type).unwrap_or(CharWidth::Narrow)
     }
 
     // Whether the element's type allows the stride.
-    pub fn validate(self) -> Checked
-        ensures { checked_from result ≡ stride_checked (array_in self) }
+    pub fn validate(self) -> Result<(), ContainerError>
+        ensures { got_from as_it_is result ≡ stride_checked (array_in self) }
     {
-        let element_type = self.element_type;
-        let element_stride = self.element_stride;
-        if stride_fits(element_type, self.element_extra, element_stride) {
-            return Checked::Good;
+        if stride_fits(self.element_type, self.element_extra, self.element_stride) {
+            return Ok(());
         }
-        Checked::Refused(ContainerError::InvalidArrayStride {
-            element_type,
-            element_stride,
+        Err(ContainerError::InvalidArrayStride {
+            element_type: self.element_type,
+            element_stride: self.element_stride,
         })
     }
 
     // The bytes of all elements.
-    pub fn byte_size(self) -> SizeAnswer
-        ensures { size_from result ≡ byte_size (array_in self) }
+    pub fn byte_size(self) -> Result<u32, ContainerError>
+        ensures { got_from as_it_is result ≡ byte_size (array_in self) }
     {
-        let elements = self.total_elements as u64;
-        let stride = self.element_stride as u64;
-        let bytes = elements * stride;
-        if bytes > 4294967295 {
-            return SizeAnswer::Refused(ContainerError::SizeOverflow);
-        }
-        SizeAnswer::Bytes(bytes as u32)
+        self.total_elements
+            .checked_mul(self.element_stride)
+            .ok_or(ContainerError::SizeOverflow)
     }
 }
 
-// The field at the place `at`.
-pub fn read_field(s: &[u8], at: usize) -> FieldStep
-    ensures { field_step result ≡ step_at field s.now at }
-{
-    if s.len() < at {
-        return FieldStep::Refused(ContainerError::ShortInput);
-    }
-    if s.len() - at < FIELD_ENTRY_SIZE {
-        return FieldStep::Refused(ContainerError::ShortInput);
-    }
-    let kind = u8_at(s, at);
-    let field_extra = u16_at(s, at + 2);
-    match FieldType::from_u8(kind) {
-        FieldTypeAnswer::Refused(e) => FieldStep::Refused(e),
-        FieldTypeAnswer::Type(field_type) => FieldStep::Entry(
+impl Entry for FieldEntry {
+    type Error = ContainerError;
+
+    ghost Kept = { Field };
+
+    ghost kept = { field_in };
+
+    ghost told = { λ _. fault_of };
+
+    ghost reader = { λ _. field };
+
+    ghost stays = { λ _. field_stays };
+
+    // All its bytes must be there before its type is checked.
+    fn read(cut: Cut, at: usize) -> Result<(Self, usize), ContainerError> {
+        if cut.left(at) < FIELD_ENTRY_SIZE {
+            return Err(ContainerError::ShortInput);
+        }
+        let field_type = FieldType::try_from(u8_at(cut.bytes, at))?;
+        let field_extra = u16_at(cut.bytes, at + 2);
+        Ok((
             FieldEntry {
                 field_type,
                 field_extra,
             },
             at + FIELD_ENTRY_SIZE,
-        ),
+        ))
     }
 }
 
-// A walk over the `n` fields from `at` on.
-fn skip_fields(s: &[u8], at: usize, n: usize) -> Walk
-    requires { at ≤ length s.now }
-    ensures { way_from result ≡ way_at (many n field) s.now at }
-{
-    let mut p = at;
-    let mut i = 0;
-    while i < n {
-        match read_field(s, p) {
-            FieldStep::Refused(e) => {
-                return Walk::Refused(e);
-            }
-            FieldStep::Entry(_, m) => {
-                p = m;
-                i += 1;
-            }
+impl FbTypeDescriptor {
+    // The table of its fields, which stand behind its head at the place `at`.
+    pub fn fields(self, at: usize) -> Table
+        requires { at + fb_type_head_size < 2 ^ 64 }
+        ensures { result ≡ head_fields at (fb_type_head_in self) }
+    {
+        Table {
+            at: at + FB_TYPE_HEAD_SIZE,
+            count: self.num_fields as usize,
         }
     }
-    Walk::At(p)
 }
 
-// The FB type at the place `at`, with all its fields checked; they stand behind its head.
-pub fn read_fb_type(s: &[u8], at: usize) -> FbTypeStep
-    ensures { fb_type_step result ≡ step_at fb_type_head s.now at }
-{
-    if s.len() < at {
-        return FbTypeStep::Refused(ContainerError::ShortInput);
-    }
-    if s.len() - at < FB_TYPE_HEAD_SIZE {
-        return FbTypeStep::Refused(ContainerError::ShortInput);
-    }
-    let type_id = u16_at(s, at);
-    let num_fields = u8_at(s, at + 2);
-    match skip_fields(s, at + FB_TYPE_HEAD_SIZE, num_fields as usize) {
-        Walk::Refused(e) => FbTypeStep::Refused(e),
-        Walk::At(m) => FbTypeStep::Entry(
-            FbTypeDescriptor {
-                type_id: FbTypeId(type_id),
-                num_fields,
-            },
-            m,
-        ),
-    }
-}
+impl Entry for FbTypeDescriptor {
+    type Error = ContainerError;
 
-// A walk over the `n` FB types from `at` on.
-pub fn skip_fb_types(s: &[u8], at: usize, n: usize) -> Walk
-    requires { at ≤ length s.now }
-    ensures { way_from result ≡ way_at (many n fb_type) s.now at }
-{
-    let mut p = at;
-    let mut i = 0;
-    while i < n {
-        match read_fb_type(s, p) {
-            FbTypeStep::Refused(e) => {
-                return Walk::Refused(e);
-            }
-            FbTypeStep::Entry(_, m) => {
-                p = m;
-                i += 1;
-            }
+    ghost Kept = { FbTypeHead };
+
+    ghost kept = { fb_type_head_in };
+
+    ghost told = { λ _. fault_of };
+
+    ghost reader = { λ _. fb_type_head };
+
+    ghost stays = { λ _. fb_type_head_stays };
+
+    // Its fields are passed over, and so checked.
+    fn read(cut: Cut, at: usize) -> Result<(Self, usize), ContainerError> {
+        if cut.left(at) < FB_TYPE_HEAD_SIZE {
+            return Err(ContainerError::ShortInput);
         }
+        let fb_type = FbTypeDescriptor {
+            type_id: FbTypeId(u16_at(cut.bytes, at)),
+            num_fields: u8_at(cut.bytes, at + 2),
+        };
+        let fields = fb_type.fields(at);
+        let end = skip::<FieldEntry>(cut, fields.at, fields.count)?;
+        Ok((fb_type, end))
     }
-    Walk::At(p)
 }
 
-// The array at the place `at`.
-pub fn read_array(s: &[u8], at: usize) -> ArrayStep
-    ensures { array_step result ≡ step_at array s.now at }
+impl Entry for ArrayDescriptor {
+    type Error = ContainerError;
+
+    ghost Kept = { Array };
+
+    ghost kept = { array_in };
+
+    ghost told = { λ _. fault_of };
+
+    ghost reader = { λ _. array };
+
+    ghost stays = { λ _. array_stays };
+
+    fn read(cut: Cut, at: usize) -> Result<(Self, usize), ContainerError> {
+        if cut.left(at) < ARRAY_DESCRIPTOR_SIZE {
+            return Err(ContainerError::ShortInput);
+        }
+        let array = ArrayDescriptor {
+            element_type: u8_at(cut.bytes, at),
+            total_elements: u32_at(cut.bytes, at + 2),
+            element_extra: u16_at(cut.bytes, at + 6),
+            element_stride: u32_at(cut.bytes, at + 8),
+        };
+        array.validate()?;
+        Ok((array, at + ARRAY_DESCRIPTOR_SIZE))
+    }
+}
+
+impl Entry for UserFbDescriptor {
+    type Error = ContainerError;
+
+    ghost Kept = { UserFb };
+
+    ghost kept = { user_fb_in };
+
+    ghost told = { λ _. fault_of };
+
+    ghost reader = { λ _. user_fb };
+
+    ghost stays = { λ _. user_fb_stays };
+
+    fn read(cut: Cut, at: usize) -> Result<(Self, usize), ContainerError> {
+        if cut.left(at) < USER_FB_DESCRIPTOR_SIZE {
+            return Err(ContainerError::ShortInput);
+        }
+        let user_fb = UserFbDescriptor {
+            type_id: FbTypeId(u16_at(cut.bytes, at)),
+            function_id: FunctionId(u16_at(cut.bytes, at + 2)),
+            var_offset: u16_at(cut.bytes, at + 4),
+            num_fields: u8_at(cut.bytes, at + 6),
+        };
+        Ok((user_fb, at + USER_FB_DESCRIPTOR_SIZE))
+    }
+}
+
+// A table with its count in front, at `at`: where its entries start, and where it ends.
+fn table<E: Entry<Error = ContainerError>>(
+    cut: Cut,
+    at: usize,
+) -> Result<(Table, usize), ContainerError>
+    requires told { (e : ContainerError) → E.told cut.bytes.now e ≡ fault_of e }
+    ensures read { step_from as_it_is result ≡ step_at (table_at at (counted (E.reader (place_of cut.entry)))) cut.entry.bytes.now at }
+    ensures few { IfOk result (λ x. x.0.count < 2 ^ 16) }
 {
-    if s.len() < at {
-        return ArrayStep::Refused(ContainerError::ShortInput);
+    if cut.left(at) < COUNT_SIZE {
+        return Err(ContainerError::ShortInput);
     }
-    if s.len() - at < ARRAY_DESCRIPTOR_SIZE {
-        return ArrayStep::Refused(ContainerError::ShortInput);
-    }
-    let a = ArrayDescriptor {
-        element_type: u8_at(s, at),
-        total_elements: u32_at(s, at + 2),
-        element_extra: u16_at(s, at + 6),
-        element_stride: u32_at(s, at + 8),
+    let entries = Table {
+        at: at + COUNT_SIZE,
+        count: u16_at(cut.bytes, at) as usize,
     };
-    match a.validate() {
-        Checked::Refused(e) => ArrayStep::Refused(e),
-        Checked::Good => ArrayStep::Entry(a, at + ARRAY_DESCRIPTOR_SIZE),
-    }
+    let end = skip::<E>(cut, entries.at, entries.count)?;
+    Ok((entries, end))
 }
 
-// A walk over the `n` arrays from `at` on.
-fn skip_arrays(s: &[u8], at: usize, n: usize) -> Walk
-    requires { at ≤ length s.now }
-    ensures { way_from result ≡ way_at (many n array) s.now at }
-{
-    let mut p = at;
-    let mut i = 0;
-    while i < n {
-        match read_array(s, p) {
-            ArrayStep::Refused(e) => {
-                return Walk::Refused(e);
-            }
-            ArrayStep::Entry(_, m) => {
-                p = m;
-                i += 1;
-            }
-        }
-    }
-    Walk::At(p)
-}
-
-// The user FB at the place `at`.
-pub fn read_user_fb(s: &[u8], at: usize) -> UserFbStep
-    ensures { user_fb_step result ≡ step_at user_fb s.now at }
-{
-    if s.len() < at {
-        return UserFbStep::Refused(ContainerError::ShortInput);
-    }
-    if s.len() - at < USER_FB_DESCRIPTOR_SIZE {
-        return UserFbStep::Refused(ContainerError::ShortInput);
-    }
-    let type_id = u16_at(s, at);
-    let function_id = u16_at(s, at + 2);
-    let var_offset = u16_at(s, at + 4);
-    let num_fields = u8_at(s, at + 6);
-    UserFbStep::Entry(
-        UserFbDescriptor {
-            type_id: FbTypeId(type_id),
-            function_id: FunctionId(function_id),
-            var_offset,
-            num_fields,
-        },
-        at + USER_FB_DESCRIPTOR_SIZE,
-    )
-}
-
-// The tables, each with its count at `at`.
-fn fb_type_table(s: &[u8], at: usize) -> TableStep
-    requires { at ≤ length s.now }
-    ensures { table_step result ≡ step_at (table_at at (counted fb_type)) s.now at }
-{
-    if s.len() - at < COUNT_SIZE {
-        return TableStep::Refused(ContainerError::ShortInput);
-    }
-    let first = at + COUNT_SIZE;
-    let count = u16_at(s, at) as usize;
-    match skip_fb_types(s, first, count) {
-        Walk::Refused(e) => TableStep::Refused(e),
-        Walk::At(m) => TableStep::Entries(Table { at: first, count }, m),
-    }
-}
-
-fn array_table(s: &[u8], at: usize) -> TableStep
-    requires { at ≤ length s.now }
-    ensures { table_step result ≡ step_at (table_at at (counted array)) s.now at }
-{
-    if s.len() - at < COUNT_SIZE {
-        return TableStep::Refused(ContainerError::ShortInput);
-    }
-    let first = at + COUNT_SIZE;
-    let count = u16_at(s, at) as usize;
-    match skip_arrays(s, first, count) {
-        Walk::Refused(e) => TableStep::Refused(e),
-        Walk::At(m) => TableStep::Entries(Table { at: first, count }, m),
-    }
-}
-
-// No user FB can be refused, so none is walked. Fewer bytes than a count has mean zero user FBs.
-fn user_fb_table(s: &[u8], at: usize) -> TableStep
-    requires { at ≤ length s.now }
-    ensures { table_step result ≡ step_at (table_at at (counted_or_none user_fb)) s.now at }
+// The table of user FBs. Fewer bytes than a count has mean zero user FBs. None can be refused, so only their bytes must be there.
+fn user_fb_table(cut: Cut, at: usize) -> Result<Table, ContainerError>
+    requires { at ≤ length cut.bytes.now }
+    ensures read { got_from as_it_is result ≡ item_of (table_at at (counted_or_none user_fb) (drop at cut.entry.bytes.now)) }
+    ensures few { IfOk result (λ t. t.count < 2 ^ 16) }
 {
     let first = at + COUNT_SIZE;
-    if s.len() < first {
-        return TableStep::Entries(
-            Table {
-                at: first,
-                count: 0,
-            },
-            at,
-        );
+    if cut.left(at) < COUNT_SIZE {
+        return Ok(Table {
+            at: first,
+            count: 0,
+        });
     }
-    let count = u16_at(s, at) as usize;
-    let size = USER_FB_DESCRIPTOR_SIZE * count;
-    if s.len() - first < size {
-        return TableStep::Refused(ContainerError::ShortInput);
+    let count = u16_at(cut.bytes, at) as usize;
+    if cut.left(first) < USER_FB_DESCRIPTOR_SIZE * count {
+        return Err(ContainerError::ShortInput);
     }
-    TableStep::Entries(Table { at: first, count }, first + size)
+    Ok(Table { at: first, count })
 }
 
-// The section's reader: its refusal, or the places of its tables.
-pub fn tables_of(s: &[u8]) -> TypeTablesAnswer
-    ensures { type_starts_from result ≡ type_starts_in s.now }
+// The section's reader: its refusal, or the places of its tables. Each count is a number of two bytes.
+pub fn tables_of(cut: Cut) -> Result<Tables, ContainerError>
+    ensures read { got_from as_it_is result ≡ type_starts_in cut.entry.bytes.now }
+    ensures few { IfOk result (λ t. (t.fb_types.count < 2 ^ 16) × (t.arrays.count < 2 ^ 16) × (t.user_fbs.count < 2 ^ 16)) }
 {
-    match fb_type_table(s, 0) {
-        TableStep::Refused(e) => TypeTablesAnswer::Refused(e),
-        TableStep::Entries(fb_types, a) => match array_table(s, a) {
-            TableStep::Refused(e) => TypeTablesAnswer::Refused(e),
-            TableStep::Entries(arrays, u) => match user_fb_table(s, u) {
-                TableStep::Refused(e) => TypeTablesAnswer::Refused(e),
-                TableStep::Entries(user_fbs, _) => TypeTablesAnswer::Tables(Tables {
-                    fb_types,
-                    arrays,
-                    user_fbs,
-                }),
-            },
-        },
-    }
+    let (fb_types, behind_fb_types) = table::<FbTypeDescriptor>(cut, 0)?;
+    let (arrays, behind_arrays) = table::<ArrayDescriptor>(cut, behind_fb_types)?;
+    let user_fbs = user_fb_table(cut, behind_arrays)?;
+    Ok(Tables {
+        fb_types,
+        arrays,
+        user_fbs,
+    })
 }

@@ -1,166 +1,191 @@
 -- Lookups and steps in the section's bytes, by what the section's reader answered.
 use mathlib.Core.Path.{◌≡◌, refl, sym, ap, subst, ◌∙◌}
-use mathlib.Core.List.{List}
-use Prim.Native.Nat.{ℕ, ◌+◌, ◌*◌, ◌-◌, ◌≤◌, ◌<◌}
+use mathlib.Core.Bool.{Bool, true, false, cond}
+use mathlib.Core.List.{List, map}
+use Prim.Native.Nat.{ℕ, ◌+◌, ◌*◌, ◌≤◌, ◌<◌}
 use native.Mathlib.Omega.{arith}
+use lib.Dec.{eqb}
 use lib.ListN.{length, take, drop, length-drop}
 use lib.Seq.{drop-drop}
+use Rattle.std.specs.Prelude.{Option, Some, None, Ok, ok_or}
 use Rattle.reading.specs.Fault.{Fault}
-use Rattle.reading.specs.Reader.{got, many}
+use Rattle.reading.specs.Reader.{Read, fault, got, Reader, next, give, many}
 use Rattle.reading.specs.Answer.{Got, refused, found, ◌>>=◌, item_of, indexed}
-use Rattle.reading.specs.Places.{Step, stops, item, Reads, Way, stops_by, on_to, Goes, left_of, Holds, entry}
+use Rattle.reading.specs.Places.{Step, stops, item, Reads, step_at, Way, stops_by, on_to, Goes, way_at, left_of, Next, ends, faulty, entry, next_of, step_of}
 use Rattle.reading.specs.declared.Table.{Table}
 use Rattle.reading.proofs.Width.{fixed-width}
 use Rattle.reading.proofs.Parts.{same_place}
-use Rattle.reading.proofs.Passing.{goes-told, reads-told}
-use Rattle.reading.proofs.Made.{made-stops, made-gives}
-use Rattle.reading.proofs.Tables.{answer_by, many-take, at_width, index-out, at-picked, at_reads, holds_walked, holds-found, holds_fits, holds-stops, holds-out}
+use Rattle.reading.proofs.Left.{Stays, stays-many}
+use Rattle.reading.proofs.Given.{reads_at, goes_at}
+use Rattle.reading.proofs.Made.{made-stops, made-gives, many-made}
+use Rattle.reading.proofs.Tables.{At, answer_by, many-take, at_width, index-out, at-picked, at_reads, holds_walked, holds-stops, holds-out}
 use Rattle.format.specs.Faults.{no_array, no_entry}
 use Rattle.format.specs.Types.{Field, field, FbType, fb_type, Array, array, UserFb, user_fb, TypeTables, type_tables}
-use Rattle.format.specs.Record.{TypeCounts}
 use Rattle.format.specs.Lookups.{FbTypeHead, fb_type_head_of, fb_type_of, field_of}
-use Rattle.format.proofs.Answers.{same-found, steps, renamed, refused-then}
-use Rattle.base.proofs.FileLookups.{next_by, step-stops, step-entry}
-use Rattle.type_entries.specs.Starts.{count_size, fb_type_head_size, array_descriptor_size, user_fb_descriptor_size, fb_types_size, fields_start, type_starts_in}
+use Rattle.format.proofs.Answers.{same-found, steps, renamed}
+use Rattle.base.specs.Answers.{got_by, found_by}
+use Rattle.type_entries.specs.Starts.{count_size, field_entry_size, fb_type_head_size, array_descriptor_size, user_fb_descriptor_size, fb_types_size, head_fields, fields_start, type_starts_in}
 use Rattle.type_entries.specs.Answers.{fb_type_head}
+use Rattle.type_entries.specs.Stays.{fb_type_head_stays}
 use Rattle.type_entries.specs.declared.Tables.{Tables}
-use Rattle.type_entries.proofs.Entries.{array-width, user-fb-fixed}
+use Rattle.type_entries.proofs.Entries.{field-width, array-width, user-fb-fixed}
 use Rattle.type_entries.proofs.Sizes.{fields-left, fb-types-many, fb-type-at}
 use Rattle.type_entries.proofs.Standing.{standing, readable}
 use Rattle.type_section.specs.Lookups.{FbTypeEntry, fb_type_entry, fb_type_of_section, field_of_section, array_of_section, user_fb_of_section, fb_type_step_of, with_fields}
+use Rattle.type_section.specs.Indexing.{OneWidth}
+
+-- An entry at an index of a table whose entries have one width
+
+module _ {A : Type 0} (r : Reader A) (s : List ℕ) (t : Table) (k : ℕ) where
+  pub width-out : t.count ≤ k → (xs : List A) (rest : List ℕ) → left_of r s t ≡ got xs rest → (out : Fault) → refused out ≡ indexed out xs k
+  width-out l xs rest e out = sym (index-out r k t.count (drop t.at s) xs rest out l e)
+
+  module _ (w : ℕ) (q : OneWidth w r s t) (l : k < t.count) where
+    there : (xs : List A) (rest : List ℕ) → left_of r s t ≡ got xs rest → At r xs k (drop (t.at + w * k) s)
+    there xs rest e = rw drop-drop at (at_width r q.width k t.count (drop t.at s) xs rest l e)
+
+    pub width-fits : t.at + w * k + w ≤ length s
+    width-fits =
+        let a = there q.entries q.rest q.reads in
+        omega (arith, q.some, (q.width.takes (drop (t.at + w * k) s) a.item a.behind a.reads).1, length-drop (t.at + w * k) s)
+
+    pub width-found : Stays s r → (x : Step A) → x ≡ step_at r s (t.at + w * k) → (xs : List A) (rest : List ℕ) → left_of r s t ≡ got xs rest → (out : Fault) → answer_by x ≡ indexed out xs k
+    width-found h x e xs rest d out = go x (reads_at h (t.at + w * k) e)
+      where
+        go : (x : Step A) → Reads r s (t.at + w * k) x → answer_by x ≡ indexed out xs k
+        go (stops f) g = absurd (at_reads r (there xs rest d) f g)
+        go (item a m) g = sym (at-picked r (there xs rest d) a (drop m s) g.1 out)
+
+-- a lookup that may find nothing, once it is said what that means
+pub or_out : {E T A : Type 0} (told : E → Fault) (view : T → A) (e : E) (x : Option T) → got_by told view (ok_or x e) ≡ found_by told view (told e) (Ok x)
+or_out told view e None = refl
+or_out told view e (Some x) = refl
 
 -- an FB type at a place, by its head
 abbrev pub head_entry : ℕ → FbTypeHead → FbTypeEntry
-head_entry at h = record { head = h; fields = record { at = at + fb_type_head_size; count = h.field_count } }
-
-abbrev pub placed : ℕ → Step FbTypeHead → Step FbTypeEntry
-placed at (stops f) = stops f
-placed at (item h m) = item (head_entry at h) m
-
--- a table of user FBs that is not empty lies in the section
-users-hold : (s : List ℕ) (t : Table) (us : List UserFb) (rest : List ℕ) (k : ℕ) → k < t.count → left_of user_fb s t ≡ got us rest → Holds user_fb s t us
-users-hold s t us rest k h e =
-    let w = fixed-width user-fb-fixed in
-    let x = drop t.at s in
-    let a = at_width user_fb w 0 t.count x us rest (omega arith) e in
-    record { within = omega (arith, (w.takes (drop (user_fb_descriptor_size * 0) x) a.item a.behind a.reads).1, length-drop (user_fb_descriptor_size * 0) x, length-drop t.at s); rest = rest; reads = e }
-
--- the fields of an FB type stand behind its head
-pub fields-hold : (s : List ℕ) (at : ℕ) (b : FbType) (t : List ℕ) → fb_type (drop at s) ≡ got b t → Holds field s (fields_start at b) b.fields
-fields-hold s at b t e =
-    let k = fields-left (drop at s) b t e in
-    record { within = omega (arith, k.1, length-drop at s); rest = t; reads = ap (many (length b.fields) field) (sym (drop-drop fb_type_head_size at s)) ∙ k.0 }
+head_entry at h = record { head = h; fields = head_fields at h }
 
 -- The section `s`, whose tables stand at `u`
 
-module _ (s : List ℕ) (u : Tables) (e : found u ≡ type_starts_in s) (i : ℕ) where
-  pub array-fits : i < u.arrays.count → u.arrays.at + array_descriptor_size * i + array_descriptor_size ≤ length s
-  array-fits l = let q = readable s u e in holds_fits array s u.arrays q.all.arrays q.stand.arrays array-width (omega arith) i l
+module _ (s : List ℕ) (u : Tables) (e : found u ≡ type_starts_in s) where
+  pub arrays-hold : OneWidth array_descriptor_size array s u.arrays
+  arrays-hold = let q = readable s u e in record { some = omega arith; width = array-width; entries = q.all.arrays; rest = q.stand.arrays.rest; reads = q.stand.arrays.reads }
 
-  pub array-out : u.arrays.count ≤ i → refused no_array ≡ array_of_section s i
-  array-out l = let q = readable s u e in rw q.is (sym (holds-out array s u.arrays q.all.arrays q.stand.arrays i no_array l))
+  pub users-hold : OneWidth user_fb_descriptor_size user_fb s u.user_fbs
+  users-hold = let q = readable s u e in record { some = omega arith; width = fixed-width user-fb-fixed; entries = q.all.user_fbs; rest = q.stand.rest; reads = q.stand.user_fbs }
 
-  pub array-found : i < u.arrays.count → {v x : Step Array} → v ≡ x → Reads array s (u.arrays.at + array_descriptor_size * i) v → answer_by x ≡ array_of_section s i
-  array-found l d g = let q = readable s u e in rw q.is (holds-found array s u.arrays q.all.arrays q.stand.arrays array-width i l no_array d g)
+  module _ (i : ℕ) where
+    pub array-is : (x : Got Array) → ((xs : List Array) (rest : List ℕ) → left_of array s u.arrays ≡ got xs rest → x ≡ indexed no_array xs i) → x ≡ array_of_section s i
+    array-is x h = let q = readable s u e in rw q.is (h q.all.arrays q.stand.arrays.rest q.stand.arrays.reads)
 
-  users : i < u.user_fbs.count → Holds user_fb s u.user_fbs (readable s u e).all.user_fbs
-  users l = let q = readable s u e in users-hold s u.user_fbs q.all.user_fbs q.stand.rest i l q.stand.user_fbs
+    pub user-fb-is : (x : Got UserFb) → ((xs : List UserFb) (rest : List ℕ) → left_of user_fb s u.user_fbs ≡ got xs rest → x ≡ indexed no_entry xs i) → x ≡ user_fb_of_section s i
+    user-fb-is x h = let q = readable s u e in rw q.is (h q.all.user_fbs q.stand.rest q.stand.user_fbs)
 
-  pub user-fb-fits : i < u.user_fbs.count → u.user_fbs.at + user_fb_descriptor_size * i + user_fb_descriptor_size ≤ length s
-  user-fb-fits l = holds_fits user_fb s u.user_fbs (readable s u e).all.user_fbs (users l) (fixed-width user-fb-fixed) (omega arith) i l
+    -- FB types differ in size: the walk over those before it ends where the FB type stands
+    pub fb-type-out : u.fb_types.count ≤ i → refused no_entry ≡ fb_type_of_section s i
+    fb-type-out l = let q = readable s u e in rw (q.is, holds-out fb_type s u.fb_types q.all.fb_types q.stand.fb_types i no_entry l)
 
-  pub user-fb-out : u.user_fbs.count ≤ i → refused no_entry ≡ user_fb_of_section s i
-  user-fb-out l =
-      let q = readable s u e in
-      rw q.is (sym (index-out user_fb i u.user_fbs.count (drop u.user_fbs.at s) q.all.user_fbs q.stand.rest no_entry l q.stand.user_fbs))
+    -- a walk over heads is one over FB types
+    heads-passed : (w : Way) → w ≡ way_at (many i fb_type_head) s u.fb_types.at → Goes (many i fb_type) s u.fb_types.at w
+    heads-passed w g = go w (goes_at (stays-many s i (fb_type_head_stays s)) u.fb_types.at g)
+      where
+        go : (w : Way) → Goes (many i fb_type_head) s u.fb_types.at w → Goes (many i fb_type) s u.fb_types.at w
+        go (stops_by f) g = let x = drop u.fb_types.at s in made-stops (map fb_type_head_of) (many i fb_type x) f (sym (many-made fb_type_head_of fb_type i x) ∙ g)
+        go (on_to m) g =
+            let x = drop u.fb_types.at s in
+            let b = made-gives (map fb_type_head_of) (many i fb_type x) g.1.0 (drop m s) (sym (many-made fb_type_head_of fb_type i x) ∙ g.1.1) in
+            (g.0, (b.0, b.1))
 
-  pub user-fb-found : i < u.user_fbs.count → {v x : Step UserFb} → v ≡ x → Reads user_fb s (u.user_fbs.at + user_fb_descriptor_size * i) v → answer_by x ≡ user_fb_of_section s i
-  user-fb-found l d g =
-      let q = readable s u e in
-      rw q.is (holds-found user_fb s u.user_fbs q.all.user_fbs (users l) (fixed-width user-fb-fixed) i l no_entry d g)
-
-  -- FB types differ in size: the walk over those before it ends where the FB type stands
-  pub fb-types-within : u.fb_types.at ≤ length s
-  fb-types-within = (readable s u e).stand.fb_types.within
-
-  pub fb-type-out : u.fb_types.count ≤ i → refused no_entry ≡ fb_type_of_section s i
-  fb-type-out l = let q = readable s u e in rw (q.is, holds-out fb_type s u.fb_types q.all.fb_types q.stand.fb_types i no_entry l)
-
-  module _ (l : i < u.fb_types.count) where
-    pub fb-type-passed : (f : Fault) {v : Way} → v ≡ stops_by f → Goes (many i fb_type) s u.fb_types.at v → ⊥
-    fb-type-passed f d g =
-        let q = readable s u e in
-        holds-stops fb_type s u.fb_types q.all.fb_types q.stand.fb_types i f (omega arith) (goes-told (many i fb_type) s u.fb_types.at d g)
-
-    module _ (m : ℕ) (g : Goes (many i fb_type) s u.fb_types.at (on_to m)) where
-      fb-type-place : m ≡ count_size + fb_types_size (take i (readable s u e).all.fb_types)
-      fb-type-place =
+    module _ (l : i < u.fb_types.count) where
+      pub fb-type-passed : {B : Type 0} (f : Fault) → stops_by f ≡ way_at (many i fb_type_head) s u.fb_types.at → B
+      fb-type-passed f g =
           let q = readable s u e in
-          let a : count_size ≡ u.fb_types.at = ap (λ (v : Tables). v.fb_types.at) q.starts in
-          let x = drop u.fb_types.at s in
-          let z = many-take fb_type i u.fb_types.count x (drop m s) q.all.fb_types g.1.0 q.stand.fb_types.rest (omega arith) q.stand.fb_types.reads g.1.1 in
-          let k = (fb-types-many i).takes x g.1.0 (drop m s) g.1.1 in
-          let c = same_place s m (u.fb_types.at + fb_types_size g.1.0) g.0 (omega (arith, k.1, length-drop u.fb_types.at s, fb-types-within)) (k.0 ∙ drop-drop (fb_types_size g.1.0) u.fb_types.at s) in
-          omega (arith, ap fb_types_size z)
+          absurd (holds-stops fb_type s u.fb_types q.all.fb_types q.stand.fb_types i f (omega arith) (heads-passed (stops_by f) g))
 
-      fb-type-is : (x : Step FbTypeHead) → Reads fb_type_head s m x → answer_by (placed m x) ≡ fb_type_of_section s i
-      fb-type-is (stops f) k =
-          let q = readable s u e in
-          absurd (at_reads fb_type (holds_walked fb_type s u.fb_types q.all.fb_types q.stand.fb_types i m l g) f (made-stops fb_type_head_of (fb_type (drop m s)) f k))
-      fb-type-is (item h n) k =
-          let q = readable s u e in
-          let b = made-gives fb_type_head_of (fb_type (drop m s)) h (drop n s) k.1 in
-          let p = at-picked fb_type (holds_walked fb_type s u.fb_types q.all.fb_types q.stand.fb_types i m l g) b.0 (drop n s) b.1 no_entry in
-          rw (q.is, p) (ap (λ (y : FbTypeHead). found (head_entry m y)) (sym b.2) ∙ ap (λ (y : ℕ). found (fb_type_entry y b.0)) fb-type-place)
+      module _ (m : ℕ) (g : on_to m ≡ way_at (many i fb_type_head) s u.fb_types.at) where
+        fb-type-place : m ≡ count_size + fb_types_size (take i (readable s u e).all.fb_types)
+        fb-type-place =
+            let q = readable s u e in
+            let w = heads-passed (on_to m) g in
+            let h = q.stand.fb_types.within in
+            let a : count_size ≡ u.fb_types.at = ap (λ (v : Tables). v.fb_types.at) q.starts in
+            let x = drop u.fb_types.at s in
+            let z = many-take fb_type i u.fb_types.count x (drop m s) q.all.fb_types w.1.0 q.stand.fb_types.rest (omega arith) q.stand.fb_types.reads w.1.1 in
+            let k = (fb-types-many i).takes x w.1.0 (drop m s) w.1.1 in
+            let c = same_place s m (u.fb_types.at + fb_types_size w.1.0) w.0 (omega (arith, k.1, length-drop u.fb_types.at s)) (k.0 ∙ drop-drop (fb_types_size w.1.0) u.fb_types.at s) in
+            omega (arith, ap fb_types_size z)
 
-    pub fb-type-found : (m : ℕ) {v : Way} → v ≡ on_to m → Goes (many i fb_type) s u.fb_types.at v → {x y : Step FbTypeHead} → x ≡ y → Reads fb_type_head s m x
-        → answer_by (placed m y) ≡ fb_type_of_section s i
-    fb-type-found m d g {x} {y} c k = fb-type-is m (goes-told (many i fb_type) s u.fb_types.at d g) y (reads-told fb_type_head s m c k)
+        -- the FB type that stands there
+        here : At fb_type (readable s u e).all.fb_types i (drop m s)
+        here = let q = readable s u e in holds_walked fb_type s u.fb_types q.all.fb_types q.stand.fb_types i m l (heads-passed (on_to m) g)
+
+        pub fb-type-reads : {B : Type 0} (f : Fault) → stops f ≡ step_at fb_type_head s m → B
+        fb-type-reads f d = absurd (at_reads fb_type here f (made-stops fb_type_head_of (fb_type (drop m s)) f (reads_at (fb_type_head_stays s) m d)))
+
+        pub fb-type-found : (h : FbTypeHead) (n : ℕ) → item h n ≡ step_at fb_type_head s m → found (head_entry m h) ≡ fb_type_of_section s i
+        fb-type-found h n d =
+            let q = readable s u e in
+            let b = made-gives fb_type_head_of (fb_type (drop m s)) h (drop n s) (reads_at (fb_type_head_stays s) m d).1 in
+            let p = at-picked fb_type here b.0 (drop n s) b.1 no_entry in
+            rw (q.is, p) (ap (λ (y : FbTypeHead). found (head_entry m y)) (sym b.2) ∙ ap (λ (y : ℕ). found (fb_type_entry y b.0)) fb-type-place)
 
 -- What follows from the FB type that is found
 
 -- its head
-pub head-found : (s : List ℕ) (i : ℕ) {v x : Got FbTypeEntry} → v ≡ x → v ≡ fb_type_of_section s i → (x >>= λ b. found b.head) ≡ (item_of (type_tables s) >>= fb_type_of i)
-head-found s i e h = ap (λ (y : Got FbTypeEntry). y >>= λ b. found b.head) (sym e ∙ h) ∙ heads (item_of (type_tables s))
+pub head-is : (s : List ℕ) (i : ℕ) (x : Got FbTypeEntry) → x ≡ fb_type_of_section s i → (x >>= λ b. found b.head) ≡ (item_of (type_tables s) >>= fb_type_of i)
+head-is s i x h = ap (λ (y : Got FbTypeEntry). y >>= λ b. found b.head) h ∙ heads (item_of (type_tables s))
   where
     heads : (y : Got TypeTables) → ((y >>= λ t. indexed no_entry t.fb_types i >>= λ b. found (fb_type_entry (count_size + fb_types_size (take i t.fb_types)) b)) >>= λ b. found b.head) ≡ (y >>= fb_type_of i)
     heads (refused f) = refl
     heads (found t) = renamed (fb_type_entry (count_size + fb_types_size (take i t.fb_types))) (λ b. found b.head) (λ b. found (fb_type_head_of b)) (λ b. refl) (indexed no_entry t.fb_types i)
 
--- its fields
-pub record FieldsOf (s : List ℕ) (i : ℕ) (x : FbTypeEntry) : Type 0 where
-  pub fields : List Field
-  pub holds : Holds field s x.fields fields
-  pub is : (j : ℕ) → indexed no_entry fields j ≡ field_of_section s i j
+-- the fields of an FB type stand behind its head
+pub fields-hold : (s : List ℕ) (at : ℕ) (b : FbType) (t : List ℕ) → fb_type (drop at s) ≡ got b t → left_of field s (fields_start at b) ≡ got b.fields t
+fields-hold s at b t e = ap (many (length b.fields) field) (sym (drop-drop fb_type_head_size at s)) ∙ (fields-left (drop at s) b t e).0
 
-pub fields-of : (s : List ℕ) (i : ℕ) (x : FbTypeEntry) {v : Got FbTypeEntry} → v ≡ found x → v ≡ fb_type_of_section s i → FieldsOf s i x
-fields-of s i x e h =
-    let k = steps (item_of (type_tables s)) (sym h ∙ e) in
+pub record FieldsOf (s : List ℕ) (i : ℕ) (t : Table) : Type 0 where
+  pub hold : OneWidth field_entry_size field s t
+  pub is : (j : ℕ) → indexed no_entry hold.entries j ≡ field_of_section s i j
+
+pub fields-of : (s : List ℕ) (i : ℕ) (x : FbTypeEntry) → found x ≡ fb_type_of_section s i → FieldsOf s i x.fields
+fields-of s i x h =
+    let k = steps (item_of (type_tables s)) (sym h) in
     let bs = k.item.fb_types in
     let j = steps (indexed no_entry bs i) k.second in
     let b = j.item in
     let d = (standing s k.item k.first).fb_types in
     let a = fb-type-at i (length bs) (drop count_size s) bs d.rest b no_entry d.reads j.first in
     let f = fields-hold s (count_size + fb_types_size (take i bs)) b a.0 (ap fb_type (sym (drop-drop (fb_types_size (take i bs)) count_size s)) ∙ a.1) in
-    record { fields = b.fields; holds = subst (λ (y : FbTypeEntry). Holds field s y.fields b.fields) (same-found j.second) f; is = λ n. sym (ap (λ (y : Got TypeTables). y >>= field_of i n) k.first ∙ ap (λ (y : Got FbType). y >>= λ d. indexed no_entry d.fields n) j.first) }
+    record {
+      hold = record { some = omega arith; width = field-width; entries = b.fields; rest = a.0; reads = subst (λ (y : FbTypeEntry). left_of field s y.fields ≡ got b.fields a.0) (same-found j.second) f };
+      is = λ n. sym (ap (λ (y : Got TypeTables). y >>= field_of i n) k.first ∙ ap (λ (y : Got FbType). y >>= λ d. indexed no_entry d.fields n) j.first);
+    }
 
-pub fields-refused : (s : List ℕ) (i j : ℕ) (f : Fault) {v : Got FbTypeEntry} → v ≡ refused f → v ≡ fb_type_of_section s i → refused f ≡ field_of_section s i j
-fields-refused s i j f e h = go (item_of (type_tables s)) (sym e ∙ h)
+pub field-is : (s : List ℕ) (i j : ℕ) (t : Table) (q : FieldsOf s i t) (x : Got Field) → ((xs : List Field) (rest : List ℕ) → left_of field s t ≡ got xs rest → x ≡ indexed no_entry xs j) → x ≡ field_of_section s i j
+field-is s i j t q x h = h q.hold.entries q.hold.rest q.hold.reads ∙ q.is j
+
+-- A step over an FB type, by the step over its head
+
+abbrev pub with_heads : Table → Next FbTypeHead → Next FbTypeEntry
+with_heads t ends = ends
+with_heads t (faulty f) = faulty f
+with_heads t (entry h u) = entry (head_entry t.at h) u
+
+pub fb-type-step : (s : List ℕ) (t : Table) (x : Next FbTypeHead) → x ≡ step_of fb_type_head s t → with_heads t x ≡ fb_type_step_of s t
+unfolding step_of
+fb-type-step s t x e = ap (with_heads t) e ∙ go (eqb t.count 0) (fb_type (drop t.at s))
   where
-    go : (y : Got TypeTables) → refused f ≡ (y >>= λ t. indexed no_entry t.fb_types i >>= λ b. found (fb_type_entry (count_size + fb_types_size (take i t.fb_types)) b)) → refused f ≡ (y >>= field_of i j)
-    go (refused g) k = cc
-    go (found t) k = refused-then (indexed no_entry t.fb_types i) (fb_type_entry (count_size + fb_types_size (take i t.fb_types))) (λ b. indexed no_entry b.fields j) f k
+    go : (z : Bool) (y : Read FbType) → with_heads t (cond z ends (next_of s t (next y (λ b. give (fb_type_head_of b))))) ≡ with_fields t (cond z ends (next_of s t y))
+    go true y = refl
+    go false (fault f) = refl
+    go false (got b rest) = refl
 
--- a step over an FB type, by what was read there
-pub fb-type-step : (s : List ℕ) (t : Table) → (t.count ≡ 0 → ⊥) → {v x : Step FbTypeHead} → v ≡ x → Reads fb_type_head s t.at v → next_by t (placed t.at x) ≡ fb_type_step_of s t
-fb-type-step s t h {v} {x} e g = go x (reads-told fb_type_head s t.at e g)
+-- the head lies in the section
+pub step-room : (s : List ℕ) (t : Table) (h : FbTypeHead) (u : Table) → entry h u ≡ step_of fb_type_head s t → t.at + fb_type_head_size ≤ length s
+unfolding step_of
+step-room s t h u e = go (eqb t.count 0) (fb_type (drop t.at s)) refl e
   where
-    go : (x : Step FbTypeHead) → Reads fb_type_head s t.at x → next_by t (placed t.at x) ≡ fb_type_step_of s t
-    go (stops f) g = ap (with_fields t) (step-stops fb_type s t h (made-stops fb_type_head_of (fb_type (drop t.at s)) f g))
-    go (item y m) g =
-        let b = made-gives fb_type_head_of (fb_type (drop t.at s)) y (drop m s) g.1 in
-        ap (λ (z : FbTypeHead). entry (head_entry t.at z) (record { at = m; count = t.count - 1 })) (sym b.2) ∙ ap (with_fields t) (step-entry fb_type s t h g.0 b.1)
-
--- the counts of the tables
-abbrev pub counts_in : Tables → TypeCounts
-counts_in u = record { fb_types = u.fb_types.count; arrays = u.arrays.count; user_fbs = u.user_fbs.count }
+    go : (z : Bool) (y : Read FbType) → fb_type (drop t.at s) ≡ y → entry h u ≡ cond z ends (next_of s t (next y (λ b. give (fb_type_head_of b)))) → t.at + fb_type_head_size ≤ length s
+    go true y d e = absurd (let z : ◌≡◌ {A = ℕ} 0 1 = cc in omega arith)
+    go false (fault f) d e = absurd (let z : ◌≡◌ {A = ℕ} 0 1 = cc in omega arith)
+    go false (got b rest) d e = omega (arith, (fields-left (drop t.at s) b rest d).1, length-drop t.at s)

@@ -17,11 +17,11 @@ use Rattle.format.specs.Types.{Field, field, FbType, fb_type, array, user_fb, Ty
 use Rattle.format.specs.Lookups.{read_at}
 use Rattle.base.proofs.FileWalks.{opened, step-opened, walk-gives-from}
 use Rattle.type_entries.specs.Starts.{fb_types_start, arrays_start, user_fbs_start, fields_start, type_starts_of}
-use Rattle.type_entries.proofs.Entries.{local-field, local-fb-type, local-array, local-user-fb}
 use Rattle.type_entries.proofs.Standing.{Standing, standing}
 use Rattle.type_section.specs.Lookups.{FbTypeEntry, arrays_at, user_fbs_at, with_fields, fb_type_step_of, next_fb_type_at, next_field_at, next_array_at, next_user_fb_at}
 use Rattle.type_section.specs.Laws.{fb_types_driven, FbTypesFrom, Laws}
 use Rattle.type_section.proofs.Finding.{fields-hold}
+use Rattle.format.proofs.Readers.{local-field, local-fb-type, local-array, local-user-fb}
 
 -- FB types that read, by steps that are those over the section's bytes: the step over each, and the walk over its fields
 module _ (s : List ℕ) (next : Table → Next FbTypeEntry) (fields : Table → Next Field) (same : (u : Table) → next u ≡ fb_type_step_of s u) (alike : (u : Table) → fields u ≡ step_of field s u) where
@@ -35,7 +35,7 @@ module _ (s : List ℕ) (next : Table → Next FbTypeEntry) (fields : Table → 
       let w = left-again s p.middle ((stays-local s local-fb-type).leaves (drop t.at s) p.first p.middle (left_at s t.at) p.reads) in
       let g = fb-types-walk k n (record { at = length s - length p.middle; count = t.count - 1 }) p.others rest (omega arith) (omega arith) (ap (many k fb_type) w ∙ p.reads-others) in
       let h = fields-hold s t.at p.first p.middle p.reads in
-      let f = steps-give s field (stays-local s local-field) fields alike (fields_start t.at p.first) p.first.fields _ h.reads (length p.first.fields) (omega arith) in
+      let f = steps-give s field (stays-local s local-field) fields alike (fields_start t.at p.first) p.first.fields _ h (length p.first.fields) (omega arith) in
       rw (same t, ne_eqb t.count 0 (λ z. omega arith), p.reads, f, g) (ap found (sym p.all))
 
 -- in a file

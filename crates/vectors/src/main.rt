@@ -8,7 +8,7 @@ ghost use Rattle.hasher.specs.State.{capacity};
 
 use base::digest::{Digest, HASH_LEN};
 use base::error::ContainerError;
-use blake3::{HASH_LIMIT, HashAnswer};
+use blake3::HASH_LIMIT;
 use compression::{BLOCK_LEN, CHUNK_LEN};
 use hasher::{CAPACITY, Hasher};
 use programs::read_full;
@@ -101,7 +101,7 @@ fn part_end(turn: usize, at: usize, end: usize) -> usize
 }
 
 // The digest of an input that is fed in parts, by value.
-fn in_parts(s: &[u8]) -> HashAnswer {
+fn in_parts(s: &[u8]) -> Result<Digest, ContainerError> {
     let mut h = Hasher::new();
     let mut at = 0;
     let mut turn = 0;
@@ -116,7 +116,7 @@ fn in_parts(s: &[u8]) -> HashAnswer {
 }
 
 // The digest of an input that is fed in two parts, through a lent state.
-fn in_two(s: &[u8]) -> HashAnswer {
+fn in_two(s: &[u8]) -> Result<Digest, ContainerError> {
     let cut = s.len() / 3;
     let first = blake3::fed_with(Hasher::new(), &s[..cut]);
     blake3::finish(blake3::fed_with(first, &s[cut..]))
@@ -127,10 +127,10 @@ fn refused(rt: &impl Print, error: ContainerError) {
     count(rt, wide(error.number()));
 }
 
-fn answered(rt: &impl Print, answer: HashAnswer) {
+fn answered(rt: &impl Print, answer: Result<Digest, ContainerError>) {
     match answer {
-        HashAnswer::Refused(error) => refused(rt, error),
-        HashAnswer::Digest(digest) => {
+        Err(error) => refused(rt, error),
+        Ok(digest) => {
             word(rt, b" ");
             let text = text_of(digest);
             word(rt, &text);
@@ -138,10 +138,10 @@ fn answered(rt: &impl Print, answer: HashAnswer) {
     }
 }
 
-fn has_digits(answer: HashAnswer, expected: &[u8]) -> bool {
+fn has_digits(answer: Result<Digest, ContainerError>, expected: &[u8]) -> bool {
     match answer {
-        HashAnswer::Refused(_) => false,
-        HashAnswer::Digest(digest) => {
+        Err(_) => false,
+        Ok(digest) => {
             let text = text_of(digest);
             check::same(&text, expected)
         }
@@ -149,7 +149,12 @@ fn has_digits(answer: HashAnswer, expected: &[u8]) -> bool {
 }
 
 // Whether an answer is a digest with the expected digits. If not, it is printed.
-fn is_right(rt: &impl Print, way: &[u8], answer: HashAnswer, expected: &[u8]) -> bool {
+fn is_right(
+    rt: &impl Print,
+    way: &[u8],
+    answer: Result<Digest, ContainerError>,
+    expected: &[u8],
+) -> bool {
     if has_digits(answer, expected) {
         return true;
     }

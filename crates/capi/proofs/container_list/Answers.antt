@@ -1,12 +1,10 @@
--- `capi::container_list` meets its contract.
-use mathlib.Core.Path.{subst}
-use Rattle.lent.specs.Output.{PutsRestFree}
+-- `capi::container_list` meets its contract: no text, or the listing and its length.
 use Rattle.lent.proofs.Fitting.{free-full, free-at}
 use Rattle.capi.proofs.Filled.{listed-none, listed-put}
 use Rattle.capi.proofs.container_list.Goals as goal
 
-pub returns-in-NoRoom : goal.returns-in-NoRoom
-returns-in-NoRoom c = listed-none (free-full (subst (PutsRestFree _ _ _ _) c.in-NoRoom.is c.put_file.ensures))
+pub returns-in-None : goal.returns-in-None
+returns-in-None c = listed-none (free-full c.in-None.ensures)
 
-pub returns-in-At : goal.returns-in-At
-returns-in-At c = listed-put (free-at (subst (PutsRestFree _ _ _ _) c.in-At.is c.put_file.ensures))
+pub returns-in-Some : goal.returns-in-Some
+returns-in-Some c = listed-put (free-at c.in-Some.ensures)

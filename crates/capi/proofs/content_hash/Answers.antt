@@ -1,10 +1,12 @@
 -- `capi::content_hash` meets its contract.
-use mathlib.Core.Path.{sym}
+use Rattle.std.proofs.lemmas.Result.{err_from_is_err_and}
 use Rattle.capi.proofs.Lookups.{hash-refused, hash-found}
 use Rattle.capi.proofs.content_hash.Goals as goal
 
-pub returns-in-Refused : goal.returns-in-Refused
-returns-in-Refused c = sym (hash-refused c.args.file.now c.read_from.ensures c.in-Refused.is)
+pub returns-in_err-read_from : goal.returns-in_err-read_from
+returns-in_err-read_from c =
+    let e = err_from_is_err_and c.from_residual.result c.from_residual.ensures.1 in
+    rw (e.1, e.2) (hash-refused c.args.file.now _ c.in_err-read_from.ensures)
 
-pub returns-in-Container : goal.returns-in-Container
-returns-in-Container c = sym (hash-found c.args.file.now c.read_from.ensures c.in-Container.is)
+pub returns : goal.returns
+returns c = hash-found c.args.file.now _ c.in_ok-read_from.ensures

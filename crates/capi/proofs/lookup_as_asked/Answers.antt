@@ -1,9 +1,9 @@
--- `capi::lookup_as_asked` meets its contract.
+-- `capi::lookup_as_asked` meets its contract: by whether the file loads.
 use Rattle.capi.proofs.Laws.{never-loads, loads}
 use Rattle.capi.proofs.lookup_as_asked.Goals as goal
 
-pub returns-in-Refused : goal.returns-in-Refused
-returns-in-Refused c = never-loads c.args.file.now c.read_from.ensures c.in-Refused.is
+pub returns-in-Err : goal.returns-in-Err
+returns-in-Err c = never-loads c.args.file.now _ c.in-Err.ensures
 
-pub returns-in-Container : goal.returns-in-Container
-returns-in-Container c = loads c.args.file.now c.read_from.ensures c.in-Container.is c.numbers_fit.ensures
+pub returns-in-Ok : goal.returns-in-Ok
+returns-in-Ok c = loads c.args.file.now _ c.in-Ok.ensures c.numbers_fit.ensures

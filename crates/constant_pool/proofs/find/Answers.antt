@@ -1,27 +1,34 @@
 -- `constant_pool::find` meets its contract: the entry at an index is the first of those from the index on.
-use mathlib.Core.Path.{◌∙◌, ap, sym, subst}
-use Rattle.base.specs.Error.{fault_of}
-use Rattle.base.specs.Section.{start_from}
-use Rattle.constant_pool.specs.Answers.{const_next_from, NextEnds}
-use Rattle.constant_pool.proofs.Pool.{find-refused, find-by}
+use Rattle.std.proofs.Common.{Ok, sym, ap, ◌∙◌, arith}
+use Rattle.std.proofs.lemmas.Result.{err_from_is_err_and}
+use Rattle.base.specs.Answers.{next_from}
+use Rattle.base.specs.Cut.{place_of}
+use Rattle.constant_pool.specs.Answers.{const_in}
+use Rattle.constant_pool.proofs.Pool.{find-refused, find-by, step-ends}
 use Rattle.constant_pool.proofs.find.Goals as goal
 
-pub returns-in-Refused : goal.returns-in-Refused
-returns-in-Refused c =
+pub returns-in_err-table : goal.returns-in_err-table
+returns-in_err-table c =
+    let e = err_from_is_err_and c.from_residual.result c.from_residual.ensures.1 in
     let a = c.args in
-    (find-refused a.base a.s.now a.index.0 (fault_of c.in-Refused.e) (sym (ap start_from c.in-Refused.is) ∙ c.table.ensures), tt)
+    rw (e.1, e.2) (find-refused a.cut.bytes.now (place_of a.cut) a.index.0 _ c.in_err-table.ensures.0, tt)
 
-pub returns-in-End : goal.returns-in-End
-returns-in-End c =
+pub returns-in_err-constant : goal.returns-in_err-constant
+returns-in_err-constant c =
+    let e = err_from_is_err_and c.from_residual-in_err-constant.result c.from_residual-in_err-constant.ensures.1 in
     let a = c.args in
-    (find-by a.base a.s.now a.index.0 c.in-Start.t (sym (ap start_from c.in-Start.is) ∙ c.table.ensures) (ap const_next_from c.in-End.is) c.next_in.ensures.0, tt)
+    rw (e.1, e.2) (find-by a.cut.bytes.now (place_of a.cut) a.index.0 _ c.in_ok-table.ensures.0 _ c.in_err-constant.ensures, tt)
 
-pub returns-in-Refused-next_in : goal.returns-in-Refused-next_in
-returns-in-Refused-next_in c =
+pub returns-in-Some : goal.returns-in-Some
+returns-in-Some c =
     let a = c.args in
-    (find-by a.base a.s.now a.index.0 c.in-Start.t (sym (ap start_from c.in-Start.is) ∙ c.table.ensures) (ap const_next_from c.in-Refused-next_in.is) c.next_in.ensures.0, tt)
+    let g = sym (ap (λ o. next_from const_in (Ok o)) c.in-Some.is) ∙ c.in_ok-constant.ensures in (
+      find-by a.cut.bytes.now (place_of a.cut) a.index.0 _ c.in_ok-table.ensures.0 _ g,
+      step-ends (place_of a.cut) a.cut.bytes.now (omega arith) _ (omega arith) _ c.in-Some.constant _ g,
+    )
 
-pub returns-in-Entry : goal.returns-in-Entry
-returns-in-Entry c =
+pub returns-in-None : goal.returns-in-None
+returns-in-None c =
     let a = c.args in
-    (find-by a.base a.s.now a.index.0 c.in-Start.t (sym (ap start_from c.in-Start.is) ∙ c.table.ensures) (ap const_next_from c.in-Entry.is) c.next_in.ensures.0, subst (NextEnds _) c.in-Entry.is c.next_in.ensures.1)
+    let g = sym (ap (λ o. next_from const_in (Ok o)) c.in-None.is) ∙ c.in_ok-constant.ensures in
+    (find-by a.cut.bytes.now (place_of a.cut) a.index.0 _ c.in_ok-table.ensures.0 _ g, tt)

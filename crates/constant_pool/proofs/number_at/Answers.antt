@@ -1,24 +1,16 @@
 -- `constant_pool::number_at` meets its contract at every size.
-use Prim.Native.Nat.{ℕ}
-use native.Mathlib.Nat.{add-sub_cancel_left}
-use mathlib.Core.Path.{ap, sym, ◌∙◌}
-use native.Mathlib.Omega.{arith}
-use lib.ListN.{length-take}
-use Rattle.reading.specs.Numbers.{le_at}
+use Rattle.std.proofs.Common.{refl, ◌∙◌, arith}
+use Rattle.constant_pool.proofs.Numbers.{part_filled, part_copied}
 use Rattle.constant_pool.proofs.number_at.Goals as goal
 
-pub returns-then-size-eq8 : goal.returns-then-size-eq8
-returns-then-size-eq8 c =
+pub returns-in-8 : goal.returns-in-8
+returns-in-8 c = let a = c.args in part_filled a.s.now a.at a.size (omega arith) (omega arith) 8 _ (λ i. omega (arith, c.type_inv.s i)) c.in-8.is c.u64_at.ensures
+
+pub returns-in-4 : goal.returns-in-4
+returns-in-4 c = let a = c.args in part_filled a.s.now a.at a.size (omega arith) (omega arith) 4 _ (λ i. omega (arith, c.type_inv.s i)) c.in-4.is c.u32_at.ensures
+
+pub returns-in_default : goal.returns-in_default
+returns-in_default c =
     let a = c.args in
-    c.u64_at.ensures ∙ ap (λ (w : ℕ). le_at w a.s.now a.at) (sym c.if-size-eq8.true)
-
-pub returns-then-size-eq4 : goal.returns-then-size-eq4
-returns-then-size-eq4 c =
-    let a = c.args in
-    c.u32_at.ensures ∙ ap (λ (w : ℕ). le_at w a.s.now a.at) (sym c.if-size-eq4.true)
-
-pub le_of-requires : goal.le_of-requires
-le_of-requires c = simp length-take (omega arith)
-
-pub returns : goal.returns
-returns c = c.le_of.ensures ∙ rw add-sub_cancel_left
+    let p = part_copied a.s.now a.at a.size (omega arith) (omega arith) c.copy_from_slice.new.self c.copy_from_slice.ensures.after in
+    part_filled a.s.now a.at a.size (omega arith) (omega arith) a.size _ (λ i. omega (arith, c.type_inv.s i)) refl (c.u64_at-in_default.ensures ∙ p)

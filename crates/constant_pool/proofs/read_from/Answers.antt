@@ -1,17 +1,14 @@
 -- `constant_pool::read_from` meets its contract: the number of constants is the same whether strings are kept by bytes or by places.
-use mathlib.Core.Path.{◌∙◌, ap, sym}
-use native.Mathlib.Omega.{arith}
-use Rattle.base.specs.Error.{fault_of}
-use Rattle.base.specs.Section.{start_from}
-use Rattle.constant_pool.proofs.Pool.{count-refused, count-found, count-few}
+use Rattle.std.proofs.lemmas.Result.{err_from_is_err_and}
+use Rattle.base.specs.Cut.{place_of}
+use Rattle.constant_pool.proofs.Pool.{count-refused, count-found}
 use Rattle.constant_pool.proofs.read_from.Goals as goal
 
-pub returns-in-Refused : goal.returns-in-Refused
-returns-in-Refused c = count-refused c.args.s.now (fault_of c.in-Refused.e) (sym (ap start_from c.in-Refused.is) ∙ c.table.ensures)
+pub returns-in_err-table : goal.returns-in_err-table
+returns-in_err-table c =
+    let e = err_from_is_err_and c.from_residual.result c.from_residual.ensures.1 in
+    let a = c.args in
+    rw (e.1, e.2) (count-refused a.cut.bytes.now (place_of a.cut) _ c.in_err-table.ensures.0)
 
-pub overflow_cast-result : goal.overflow_cast-result
-overflow_cast-result c =
-    omega (arith, count-few c.args.s.now c.in-Start.t (λ i. omega (arith, c.type_inv.s i)) (sym (ap start_from c.in-Start.is) ∙ c.table.ensures))
-
-pub returns-in-Start : goal.returns-in-Start
-returns-in-Start c = count-found c.args.s.now c.in-Start.t (sym (ap start_from c.in-Start.is) ∙ c.table.ensures)
+pub returns : goal.returns
+returns c = let a = c.args in count-found a.cut.bytes.now (place_of a.cut) _ c.in_ok-table.ensures.0

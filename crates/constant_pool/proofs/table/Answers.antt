@@ -1,46 +1,28 @@
-use mathlib.Core.Path.{ap, sym}
-use Prim.Native.Nat.{◌≤◌}
-use native.Mathlib.Omega.{arith}
-use lib.ListN.{length}
-use Rattle.reading.specs.Fault.{short_input}
-use Rattle.reading.specs.Answer.{item_of}
-use Rattle.reading.proofs.Reading.{number_short}
-use Rattle.reading.proofs.Given.{reads_at}
-use Rattle.reading.proofs.From.{from-short, from-none, from-near, from-far, from-halt, from_all}
-use Rattle.constant_pool.specs.Entry.{entry_type}
-use Rattle.constant_pool.specs.Answers.{head_from}
-use Rattle.constant_pool.proofs.Entries.{stays-type}
+-- `constant_pool::table` meets its contract: the count, the entries before the index, and the others.
+use Rattle.std.proofs.Common.{arith}
+use Rattle.std.proofs.lemmas.Result.{err_from_is_err_and}
+use Rattle.format.specs.Parts.{by_place}
+use Rattle.format.proofs.Leaves.{stays-constant}
+use Rattle.base.specs.Cut.{place_of}
+use Rattle.reading.proofs.From.{table_short, table_first_err, table_err, table_ok}
 use Rattle.constant_pool.proofs.table.Goals as goal
 
-pub returns-then-s-lt2 : goal.returns-then-s-lt2
-returns-then-s-lt2 c =
-    let s = c.args.s.now in
-    let l = number_short 2 s (omega arith) in
-    sym (ap item_of (from-short entry_type _ c.args.k s short_input l))
+pub returns-then-left-lt-COUNT_SIZE : goal.returns-then-left-lt-COUNT_SIZE
+returns-then-left-lt-COUNT_SIZE c = let a = c.args in (table_short _ _ (stays-constant a.cut.bytes.now (by_place (place_of a.cut))) a.k (omega arith), tt)
 
-pub loop-i-init : goal.loop-i-init
-loop-i-init c = let w : 2 ≤ length c.args.s.now = omega arith in from-none _ _ _ _ w
+pub returns-in_err-at : goal.returns-in_err-at
+returns-in_err-at c =
+    let e = err_from_is_err_and c.from_residual.result c.from_residual.ensures.1 in
+    let a = c.args in
+    rw (e.1, e.2) (table_first_err _ _ (stays-constant a.cut.bytes.now (by_place (place_of a.cut))) a.k _ _ (omega arith) c.u16_at-all.ensures c.min.ensures _ c.in_err-at.ensures, tt)
 
-pub read_head-requires : goal.read_head-requires
-read_head-requires c = c.loop-i.invariant.all.within
-
-pub returns-in-Refused : goal.returns-in-Refused
-returns-in-Refused c =
-    let s = c.args.s.now in
-    let w : 2 ≤ length s = omega arith in
-    from-halt _ _ _ _ w c.u16_at-count.ensures _ _ _ _ c.loop-i-test.true c.loop-i.invariant (ap head_from c.in-Refused.is) (reads_at (stays-type _) _ c.read_head.ensures.0)
-
-pub loop-i-preserved-then-i-k : goal.loop-i-preserved-then-i-k
-loop-i-preserved-then-i-k c =
-    let s = c.args.s.now in
-    from-near _ _ _ _ _ _ _ c.loop-i-test.true c.loop-i.invariant _ _ c.if-i-k.true (ap head_from c.in-Head.is) (reads_at (stays-type _) _ c.read_head.ensures.0)
-
-pub loop-i-preserved : goal.loop-i-preserved
-loop-i-preserved c =
-    let s = c.args.s.now in
-    from-far _ _ _ _ _ _ _ c.loop-i-test.true c.loop-i.invariant _ _ c.if-i-k.false (ap head_from c.in-Head.is) (reads_at (stays-type _) _ c.read_head.ensures.0)
+pub returns-in_err-skip : goal.returns-in_err-skip
+returns-in_err-skip c =
+    let e = err_from_is_err_and c.from_residual-in_err-skip.result c.from_residual-in_err-skip.ensures.1 in
+    let a = c.args in
+    rw (e.1, e.2) (table_err _ _ (stays-constant a.cut.bytes.now (by_place (place_of a.cut))) a.k _ _ (omega arith) c.u16_at-all.ensures c.min.ensures _ _ c.saturating_sub-count.ensures c.in_ok-at.ensures _ c.in_err-skip.ensures, tt)
 
 pub returns : goal.returns
 returns c =
-    let w : 2 ≤ length c.args.s.now = omega arith in
-    from_all _ _ _ _ w c.u16_at-count.ensures _ _ _ c.loop-i-test.false c.loop-i.invariant
+    let a = c.args in
+    (table_ok _ _ (stays-constant a.cut.bytes.now (by_place (place_of a.cut))) a.k _ _ (omega arith) c.u16_at-all.ensures c.min.ensures _ _ c.saturating_sub-count.ensures c.in_ok-at.ensures _ c.in_ok-skip.ensures, omega arith)

@@ -1,21 +1,14 @@
 -- `container::debug_of` meets its contract: only tables that were read are kept.
-use mathlib.Core.Path.{sym, ap, ◌∙◌}
+use Rattle.std.proofs.Common.{◌∙◌}
+use Rattle.format.specs.Parts.{cut}
 use Rattle.header.specs.Answers.{header_in}
-use Rattle.container.specs.Answers.{debug_state_in}
-use Rattle.container.proofs.Parts.{debug-kept}
+use Rattle.container.proofs.Parts.{debug-kept, unread}
 use Rattle.container.proofs.debug_of.Goals as goal
 
-pub returns-in-Empty : goal.returns-in-Empty
-returns-in-Empty c = debug-kept c.args.file.now (header_in c.args.header) c.requires (ap (debug_state_in _) (sym c.in-Empty.is) ∙ c.debug_state.ensures)
-
-pub returns-in-Outside : goal.returns-in-Outside
-returns-in-Outside c = debug-kept c.args.file.now (header_in c.args.header) c.requires (ap (debug_state_in _) (sym c.in-Outside.is) ∙ c.debug_state.ensures)
-
-pub returns-in-HashDiffers : goal.returns-in-HashDiffers
-returns-in-HashDiffers c = debug-kept c.args.file.now (header_in c.args.header) c.requires (ap (debug_state_in _) (sym c.in-HashDiffers.is) ∙ c.debug_state.ensures)
-
-pub returns-in-Unreadable : goal.returns-in-Unreadable
-returns-in-Unreadable c = debug-kept c.args.file.now (header_in c.args.header) c.requires (ap (debug_state_in _) (sym c.in-Unreadable.is) ∙ c.debug_state.ensures)
-
 pub returns-in-Read : goal.returns-in-Read
-returns-in-Read c = debug-kept c.args.file.now (header_in c.args.header) c.requires (ap (debug_state_in _) (sym c.in-Read.is) ∙ c.debug_state.ensures)
+returns-in-Read c = debug-kept c.args.file.now (header_in c.args.header) c.requires c.in-Read.ensures
+
+pub returns-in_default : goal.returns-in_default
+returns-in_default c =
+    let h = header_in c.args.header in
+    unread (cut c.args.file.now h.directory.debug) c.debug_state.result c.in_default.not-Read ∙ debug-kept c.args.file.now h c.requires c.debug_state.ensures

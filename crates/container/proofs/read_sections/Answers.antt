@@ -1,5 +1,6 @@
 -- `container::read_sections` meets its contract: the sections in turn, and the first refusal decides.
-use mathlib.Core.Path.{◌∙◌}
+use Rattle.std.proofs.Common.{◌∙◌}
+use Rattle.std.proofs.lemmas.Result.{err_from_is_err_and}
 use Rattle.header.specs.Answers.{header_in}
 use Rattle.container.proofs.Parts.{rows-found}
 use Rattle.container.proofs.Loading.{tasks-refused, types-refused, constants-refused, code-refused, all_found}
@@ -11,34 +12,29 @@ types_of-requires c = c.requires.short
 pub debug_of-debug-requires : goal.debug_of-debug-requires
 debug_of-debug-requires c = c.requires.short
 
-pub returns-in-Refused : goal.returns-in-Refused
-returns-in-Refused c = tasks-refused c.args.file.now (header_in c.args.header) c.requires (rw c.in-Refused.is at c.tasks_at.ensures)
+pub returns-in_err-tasks : goal.returns-in_err-tasks
+returns-in_err-tasks c =
+    let e = err_from_is_err_and c.from_residual.result c.from_residual.ensures.1 in
+    rw (e.1, e.2) (tasks-refused c.args.file.now (header_in c.args.header) c.requires c.in_err-tasks.ensures)
 
-pub returns-in-Refused-types_of : goal.returns-in-Refused-types_of
-returns-in-Refused-types_of c = types-refused c.args.file.now (header_in c.args.header) c.requires (rw c.in-Counts.is at c.tasks_at.ensures) (rw c.in-Refused-types_of.is at c.types_of.ensures)
+pub returns-in_err-types : goal.returns-in_err-types
+returns-in_err-types c =
+    let e = err_from_is_err_and c.from_residual-in_err-types.result c.from_residual-in_err-types.ensures.1 in
+    rw (e.1, e.2) (types-refused c.args.file.now (header_in c.args.header) c.requires c.in_ok-tasks.ensures c.in_err-types.ensures)
 
-pub returns-in-Refused-constants_at : goal.returns-in-Refused-constants_at
-returns-in-Refused-constants_at c =
-    constants-refused c.args.file.now (header_in c.args.header) c.requires
-    (rw c.in-Counts.is at c.tasks_at.ensures)
-    (rw c.in-Types.is at c.types_of.ensures)
-    (rw c.in-Refused-constants_at.is at c.constants_at.ensures)
+pub returns-in_err-constants : goal.returns-in_err-constants
+returns-in_err-constants c =
+    let e = err_from_is_err_and c.from_residual-in_err-constants.result c.from_residual-in_err-constants.ensures.1 in
+    rw (e.1, e.2) (constants-refused c.args.file.now (header_in c.args.header) c.requires c.in_ok-tasks.ensures c.in_ok-types.ensures c.in_err-constants.ensures)
 
-pub returns-in-Refused-code_at : goal.returns-in-Refused-code_at
-returns-in-Refused-code_at c =
-    code-refused c.args.file.now (header_in c.args.header) c.requires
-    (rw c.in-Counts.is at c.tasks_at.ensures)
-    (rw c.in-Types.is at c.types_of.ensures)
-    (rw c.in-Count.is at c.constants_at.ensures)
-    (rw c.in-Refused-code_at.is at c.code_at.ensures)
+pub returns-in_err-code_at : goal.returns-in_err-code_at
+returns-in_err-code_at c =
+    let e = err_from_is_err_and c.from_residual-in_err-code_at.result c.from_residual-in_err-code_at.ensures.1 in
+    rw (e.1, e.2) (code-refused c.args.file.now (header_in c.args.header) c.requires c.in_ok-tasks.ensures c.in_ok-types.ensures c.in_ok-constants.ensures c.in_err-code_at.ensures)
 
-pub returns-in-Good : goal.returns-in-Good
-returns-in-Good c =
+pub returns : goal.returns
+returns c =
     let f = c.args.file.now in
     let h = header_in c.args.header in
-    all_found f h c.requires (rw c.in-Counts.is at c.tasks_at.ensures)
-    (rw c.in-Types.is at c.types_of.ensures)
-    (rw c.in-Count.is at c.constants_at.ensures)
-    (rw c.in-Good.is at c.code_at.ensures)
-    c.debug_of-debug.ensures
+    all_found f h c.requires c.in_ok-tasks.ensures c.in_ok-types.ensures c.in_ok-constants.ensures c.in_ok-code_at.ensures c.debug_of-debug.ensures
     (c.in_force_of-in_force.ensures ∙ rows-found f h c.requires.short c.debug_of-debug.ensures)

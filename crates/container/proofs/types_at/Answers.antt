@@ -1,33 +1,15 @@
 -- `container::types_at` meets its contract: none if the place is not in the file behind the header, else the section's reader decides.
-use native.Mathlib.Omega.{arith}
-use Prim.Native.Nat.{◌+◌, ◌≤◌}
-use lib.ListN.{length}
-use Rattle.base.specs.Section.{place_in}
+use Rattle.std.proofs.lemmas.Result.{err_from_is_err_and}
 use Rattle.container.proofs.Parts.{types-outside, types-refused, types-counted}
 use Rattle.container.proofs.types_at.Goals as goal
-use Rattle.container.proofs.types_at.Goals.{In-Part}
 
--- the section's part lies in the file
-within : (c : In-Part) → c.in-Part.p.offset + c.in-Part.p.size ≤ length c.args.file.now
-within c = rw c.in-Part.is at c.section_part.ensures.1
+pub returns-in-Err : goal.returns-in-Err
+returns-in-Err c = types-outside _ _ c.requires _ c.in-Err.ensures
 
-pub overflow_add-offset : goal.overflow_add-offset
-overflow_add-offset c = omega (arith, within (goal.at.overflow_add-offset c).In-Part)
+pub returns-in_err-read_from-in-Ok : goal.returns-in_err-read_from-in-Ok
+returns-in_err-read_from-in-Ok c =
+    let e = err_from_is_err_and c.from_residual.result c.from_residual.ensures.1 in
+    rw (e.1, e.2) (types-refused _ _ c.requires _ _ c.in-Ok.ensures c.in_err-read_from-in-Ok.ensures)
 
-pub slice_bounds-read_from-end : goal.slice_bounds-read_from-end
-slice_bounds-read_from-end c = omega (arith, within (goal.at.slice_bounds-read_from-end c).In-Part)
-
-pub returns-in-Refused : goal.returns-in-Refused
-returns-in-Refused c =
-    let a = c.args in
-    types-outside a.file.now (place_in a.section) c.requires (rw c.in-Refused.is at c.section_part.ensures.0)
-
-pub returns-in-Refused-read_from : goal.returns-in-Refused-read_from
-returns-in-Refused-read_from c =
-    let a = c.args in
-    types-refused a.file.now (place_in a.section) c.requires (rw c.in-Part.is at c.section_part.ensures.0) (rw c.in-Refused-read_from.is at c.read_from.ensures)
-
-pub returns-in-Counts : goal.returns-in-Counts
-returns-in-Counts c =
-    let a = c.args in
-    types-counted a.file.now (place_in a.section) c.requires (rw c.in-Part.is at c.section_part.ensures.0) (rw c.in-Counts.is at c.read_from.ensures)
+pub returns-in_ok-read_from-in-Ok : goal.returns-in_ok-read_from-in-Ok
+returns-in_ok-read_from-in-Ok c = types-counted _ _ c.requires _ _ c.in-Ok.ensures c.in_ok-read_from-in-Ok.ensures

@@ -1,17 +1,13 @@
--- `debug_tables::bad_place` meets its contract: what `read_tables` answers, by the place of its fault.
-use mathlib.Core.Path.{sym, ap, ◌∙◌}
-use Rattle.debug_text.specs.Answers.{fault_place}
-use Rattle.debug_tables.specs.Answers.{debug_tables_from}
+-- `debug_tables::bad_place` meets its contract: what `tables_of` answers, by the place of its fault.
+use Rattle.debug_text.specs.declared.DebugFault.TheVariants.{Short, BadText}
 use Rattle.debug_tables.proofs.BadPlaces.{placed, not-bad}
 use Rattle.debug_tables.proofs.bad_place.Goals as goal
 
-pub returns-in-Short : goal.returns-in-Short
-returns-in-Short c =
-    ap fault_place (sym c.in-Short.is) ∙ placed c.args.s.now c.in-Fault.e (ap (debug_tables_from _) (sym c.in-Fault.is) ∙ c.read_tables.ensures)
+pub returns-in-Err-BadText : goal.returns-in-Err-BadText
+returns-in-Err-BadText c = placed _ (BadText c.in-Err-BadText.p) (rw c.in-Err-BadText.field-0-is at c.in-Err-BadText.ensures)
 
-pub returns-in-BadText : goal.returns-in-BadText
-returns-in-BadText c =
-    ap fault_place (sym c.in-BadText.is) ∙ placed c.args.s.now c.in-Fault.e (ap (debug_tables_from _) (sym c.in-Fault.is) ∙ c.read_tables.ensures)
+pub returns-in-Err-Short : goal.returns-in-Err-Short
+returns-in-Err-Short c = placed _ Short (rw c.in-Err-Short.field-0-is at c.in-Err-Short.ensures)
 
-pub returns-in-Tables : goal.returns-in-Tables
-returns-in-Tables c = not-bad c.args.s.now _ (ap (debug_tables_from _) (sym c.in-Tables.is) ∙ c.read_tables.ensures)
+pub returns-in-Ok : goal.returns-in-Ok
+returns-in-Ok c = not-bad _ _ c.in-Ok.ensures

@@ -1,17 +1,22 @@
--- `header::masked` meets its contract.
-use lib.ListN.{length-set}
-use native.Mathlib.Omega.{arith}
-use Rattle.reading.proofs.Parts.{length_part}
-use Rattle.header.proofs.Masking.{masked-by}
-use borrow.Author.Rules.{rules}
+-- `header::masked` meets its contract: the byte of the flags, and then three parts filled with zeros.
+use Rattle.std.proofs.Common.{◌≡◌, length, rules}
+use Rattle.header.proofs.Masking.{room-second, room-third, masked-by}
 use Rattle.header.proofs.masked.Goals as goal
 
-pub copy-requires-2 : goal.copy-requires-2
-copy-requires-2 c =
-    let f = c.args.header.now in
-    let image = c.copy.new.out in
-    omega (arith, c.copy.auto.out, length-set image 7 c.without_debug_bit.result, length_part f 40 32 (search rules))
+pub slice_bounds-image-end-2 : goal.slice_bounds-image-end-2
+slice_bounds-image-end-2 c =
+    let h = c.args.header.now in
+    let l : length h ≡ 256 = search rules in
+    room-second h c.without_debug_bit.result l (c.fill.ensures.after (λ y e. e))
+
+pub slice_bounds-image-end-3 : goal.slice_bounds-image-end-3
+slice_bounds-image-end-3 c =
+    let h = c.args.header.now in
+    let l : length h ≡ 256 = search rules in
+    room-third h c.without_debug_bit.result l (c.fill.ensures.after (λ y e. e)) (c.fill-2.ensures.after (λ y e. e))
 
 pub returns : goal.returns
 returns c =
-    masked-by c.args.header.now (search rules) c.copy.ensures c.without_debug_bit.ensures c.copy-2.ensures c.copy-3.ensures c.copy-4.ensures
+    let h = c.args.header.now in
+    let l : length h ≡ 256 = search rules in
+    masked-by h l c.without_debug_bit.ensures (c.fill.ensures.after (λ y e. e)) (c.fill-2.ensures.after (λ y e. e)) (c.fill-3.ensures.after (λ y e. e))

@@ -1,10 +1,6 @@
 -- `lent::put_u16` meets its contract.
-use native.Mathlib.Omega.{arith}
-use Rattle.reading.proofs.Le.{bytes-length}
-use Rattle.lent.proofs.Writing.{wrote_as}
+use Rattle.lent.proofs.Writing.{wrote_number}
 use Rattle.lent.proofs.put_u16.Goals as goal
 
 pub returns : goal.returns
-returns c =
-    let w = wrote_as c.u16_bytes-bytes.ensures c.put_bytes.ensures in
-    (omega (arith, w.next, bytes-length 2 c.args.n), w)
+returns c = wrote_number 2 _ c.to_le_bytes.ensures c.put.ensures

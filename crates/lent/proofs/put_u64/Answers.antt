@@ -1,10 +1,6 @@
 -- `lent::put_u64` meets its contract.
-use native.Mathlib.Omega.{arith}
-use Rattle.reading.proofs.Le.{bytes-length}
-use Rattle.lent.proofs.Writing.{wrote_as}
+use Rattle.lent.proofs.Writing.{wrote_number}
 use Rattle.lent.proofs.put_u64.Goals as goal
 
 pub returns : goal.returns
-returns c =
-    let w = wrote_as c.u64_bytes-bytes.ensures c.put_bytes.ensures in
-    (omega (arith, w.next, bytes-length 8 c.args.n), w)
+returns c = wrote_number 8 _ c.to_le_bytes.ensures c.put.ensures

@@ -1,28 +1,24 @@
 -- `line_map::line` meets its contract: all entries have one size, so entry k stands at k times that.
-use native.Mathlib.Omega.{arith}
-use Rattle.line_map.proofs.Entries.{in-short, line-out, line-found, fit-told, short-told}
+use Rattle.std.proofs.lemmas.Result.{err_from_is_err_and}
+use Rattle.line_map.proofs.Entries.{map-is, in-refused, line-out, line-found}
 use Rattle.line_map.proofs.line.Goals as goal
 
-pub overflow_mul-k : goal.overflow_mul-k
-overflow_mul-k c = let a = c.args in omega (arith, fit-told a.s.now a.at a.n c.lines_fit.ensures c.if-lines_fit.true)
-
-pub overflow_add-at : goal.overflow_add-at
-overflow_add-at c = let a = c.args in omega (arith, fit-told a.s.now a.at a.n c.lines_fit.ensures c.if-lines_fit.true)
-
-pub entry_at-requires : goal.entry_at-requires
-entry_at-requires c = let a = c.args in omega (arith, fit-told a.s.now a.at a.n c.lines_fit.ensures c.if-lines_fit.true)
-
-pub returns-then-k-n : goal.returns-then-k-n
-returns-then-k-n c =
+pub returns-in_err-map : goal.returns-in_err-map
+returns-in_err-map c =
     let a = c.args in
-    let fits = fit-told a.s.now a.at a.n c.lines_fit.ensures c.if-lines_fit.true in
-    line-found a.s.now a.at a.n fits a.k _ c.if-k-n.true c.entry_at.ensures
+    let e = err_from_is_err_and c.from_residual.result c.from_residual.ensures.1 in
+    rw (e.1, e.2) (in-refused a.s.now a.at a.n _ _ c.in_err-map.ensures)
 
-pub returns-else-k-n : goal.returns-else-k-n
-returns-else-k-n c =
+pub returns-then-n-k : goal.returns-then-n-k
+returns-then-n-k c =
     let a = c.args in
-    let fits = fit-told a.s.now a.at a.n c.lines_fit.ensures c.if-lines_fit.true in
-    line-out a.s.now a.at a.n fits a.k c.if-k-n.false
+    let m = c.in_ok-map.map in
+    let k = map-is a.s.now a.at a.n _ c.in_ok-map.ensures in
+    rw (k.0, k.1, k.2) (line-out m.s.now m.at m.n m.whole a.k (rw k.2 at c.if-n-k.true))
 
-pub returns-else-lines_fit : goal.returns-else-lines_fit
-returns-else-lines_fit c = let a = c.args in in-short a.s.now a.at a.n _ (short-told a.s.now a.at a.n c.lines_fit.ensures c.if-lines_fit.false)
+pub returns : goal.returns
+returns c =
+    let a = c.args in
+    let m = c.in_ok-map.map in
+    let k = map-is a.s.now a.at a.n _ c.in_ok-map.ensures in
+    rw (k.0, k.1, k.2) (line-found m.s.now m.at m.n m.whole a.k _ (rw k.2 at c.if-n-k.false) c.entry.ensures)

@@ -1,31 +1,11 @@
--- `reading::u32_at` meets its contract: the law `le_at-split` at widths 2 and 2.
-use borrow.Author.Rules.{rules}
+-- `reading::u32_at` meets its contract, byte for byte.
+use Prim.Native.Nat.{◌+◌}
 use native.Mathlib.Omega.{arith}
-use Rattle.reading.proofs.Le.{le_at-split}
+use Rattle.reading.proofs.Le.{le_at_next, le_at_one}
 use Rattle.reading.proofs.u32_at.Goals as goal
-
-pub u16_at-requires : goal.u16_at-requires
-u16_at-requires c = search rules
-
-pub overflow_cast-result : goal.overflow_cast-result
-overflow_cast-result c = search rules
-
-pub overflow_add-at : goal.overflow_add-at
-overflow_add-at c = search rules
-
-pub u16_at-requires-2 : goal.u16_at-requires-2
-u16_at-requires-2 c = search rules
-
-pub overflow_cast-result-2 : goal.overflow_cast-result-2
-overflow_cast-result-2 c = search rules
-
-pub overflow_mul-result : goal.overflow_mul-result
-overflow_mul-result c = search rules
-
-pub overflow_add-result : goal.overflow_add-result
-overflow_add-result c = search rules
 
 pub returns : goal.returns
 returns c =
     let a = c.args in
-    omega (arith, le_at-split 2 2 a.s.now a.at (omega arith))
+    let s = a.s.now in
+    omega (arith, c.from_le_bytes.ensures, le_at_next 4 s a.at (a.at + 1), le_at_next 3 s (a.at + 1) (a.at + 2), le_at_next 2 s (a.at + 2) (a.at + 3), le_at_one s (a.at + 3))

@@ -1,31 +1,11 @@
--- `reading::u64_at` meets its contract: the law `le_at-split` at widths 4 and 4.
-use borrow.Author.Rules.{rules}
+-- `reading::u64_at` meets its contract, byte for byte.
+use Prim.Native.Nat.{◌+◌}
 use native.Mathlib.Omega.{arith}
-use Rattle.reading.proofs.Le.{le_at-split}
+use Rattle.reading.proofs.Le.{le_at_next, le_at_one}
 use Rattle.reading.proofs.u64_at.Goals as goal
-
-pub u32_at-requires : goal.u32_at-requires
-u32_at-requires c = search rules
-
-pub overflow_cast-result : goal.overflow_cast-result
-overflow_cast-result c = search rules
-
-pub overflow_add-at : goal.overflow_add-at
-overflow_add-at c = search rules
-
-pub u32_at-requires-2 : goal.u32_at-requires-2
-u32_at-requires-2 c = search rules
-
-pub overflow_cast-result-2 : goal.overflow_cast-result-2
-overflow_cast-result-2 c = search rules
-
-pub overflow_mul-result : goal.overflow_mul-result
-overflow_mul-result c = search rules
-
-pub overflow_add-result : goal.overflow_add-result
-overflow_add-result c = search rules
 
 pub returns : goal.returns
 returns c =
     let a = c.args in
-    omega (arith, le_at-split 4 4 a.s.now a.at (omega arith))
+    let s = a.s.now in
+    omega (arith, c.from_le_bytes.ensures, le_at_next 8 s a.at (a.at + 1), le_at_next 7 s (a.at + 1) (a.at + 2), le_at_next 6 s (a.at + 2) (a.at + 3), le_at_next 5 s (a.at + 3) (a.at + 4), le_at_next 4 s (a.at + 4) (a.at + 5), le_at_next 3 s (a.at + 5) (a.at + 6), le_at_next 2 s (a.at + 6) (a.at + 7), le_at_one s (a.at + 7))

@@ -1,6 +1,6 @@
 -- `record_numbers::numbers_fit` meets its contract.
 use Rattle.record.specs.Answers.{container_in}
-use Rattle.record_numbers.proofs.Fitting.{record-fits}
+use Rattle.record_numbers.proofs.Bounds.{record-fits}
 use Rattle.record_numbers.proofs.numbers_fit.Goals as goal
 
 pub returns : goal.returns

@@ -1,9 +1,8 @@
 use Prim.Native.Nat.{ℕ}
-use mathlib.Core.Path.{refl, sym, ap, subst, ◌∙◌}
+use mathlib.Core.Path.{refl, sym, ap, ◌∙◌}
 use mathlib.Core.List.{List}
 use native.Mathlib.Omega.{arith}
 use Rattle.base.specs.Section.{place_in}
-use Rattle.lent.specs.Output.{PutsRestFree}
 use Rattle.lent.proofs.Writing.{wrote-length}
 use Rattle.lent.proofs.Fitting.{free-none, free-at}
 use Rattle.type_section.specs.Answers.{fb_type_next_from}
@@ -17,49 +16,34 @@ use Rattle.table_lines.proofs.put_fb_entries.Goals as goal
 pub returns-then-out-at : goal.returns-then-out-at
 returns-then-out-at c = free-none _ _ _ (omega arith) refl
 
-pub loop-rest-init : goal.loop-rest-init
-loop-rest-init c = (0, left-start (omega arith) refl)
+pub loop-i-init : goal.loop-i-init
+loop-i-init c = (left-start (omega arith) refl, omega arith, refl)
 
-pub shape_of-out-in-End : goal.shape_of-out-in-End
-shape_of-out-in-End c = wrote-length c.loop-rest.invariant.1.wrote
+pub returns-in-Ok-None : goal.returns-in-Ok-None
+returns-in-Ok-None c = left-none c.loop-i.invariant.0 (rw (← (rw c.in-Ok-None.field-0-is at c.in-Ok-None.ensures)) tt)
 
-pub returns-in-End : goal.returns-in-End
-returns-in-End c = left-none c.loop-rest.invariant.1 (rw (← c.next_fb_type.ensures, c.in-End.is) tt)
+pub returns-in-Err : goal.returns-in-Err
+returns-in-Err c = left-none c.loop-i.invariant.0 (rw (← c.in-Err.ensures) tt)
 
-pub shape_of-out-in-Refused : goal.shape_of-out-in-Refused
-shape_of-out-in-Refused c = wrote-length c.loop-rest.invariant.1.wrote
-
-pub returns-in-Refused : goal.returns-in-Refused
-returns-in-Refused c = left-none c.loop-rest.invariant.1 (rw (← c.next_fb_type.ensures, c.in-Refused.is) tt)
-
-pub shape_of-out-in-NoRoom : goal.shape_of-out-in-NoRoom
-shape_of-out-in-NoRoom c = c.put_with_fields.auto.out ∙ wrote-length c.loop-rest.invariant.1.wrote
-
-pub returns-in-NoRoom : goal.returns-in-NoRoom
-returns-in-NoRoom c =
+pub returns-in_err-next-in-Ok-Some : goal.returns-in_err-next-in-Ok-Some
+returns-in_err-next-in-Ok-Some c =
     let a = c.args in
+    let l = c.loop-i.invariant in
     let line : FbTypeEntry → List ℕ = λ b. fb_type_text a.file.now (place_in a.section) b.head b.fields in
-    let e = ap (λ x. lined x line) (sym c.next_fb_type.ensures ∙ ap fb_type_next_from c.in-Entry.is) in
-    left-full c.loop-rest.invariant.1 (omega arith) e (subst (PutsRestFree _ _ _ _) c.in-NoRoom.is c.put_with_fields.ensures)
+    let e = ap (λ x. lined x line) (sym (rw c.in-Ok-Some.field-0-is at c.in-Ok-Some.ensures)) in
+    rw c.from_residual.ensures (left-full l.0 (omega (arith, l.1, l.2)) e c.in_err-next-in-Ok-Some.ensures)
 
-pub loop-rest-smaller : goal.loop-rest-smaller
-loop-rest-smaller c =
+pub loop-i-preserved : goal.loop-i-preserved
+loop-i-preserved c =
     let a = c.args in
+    let l = c.loop-i.invariant in
     let line : FbTypeEntry → List ℕ = λ b. fb_type_text a.file.now (place_in a.section) b.head b.fields in
-    let e = ap (λ x. lined x line) (sym c.next_fb_type.ensures ∙ ap fb_type_next_from c.in-Entry.is) in
-    let n = fb-types-fall a.file.now (place_in a.section) 0 _ _ _ e in
-    omega arith
-
-pub loop-rest-preserved : goal.loop-rest-preserved
-loop-rest-preserved c =
-    let a = c.args in
-    let line : FbTypeEntry → List ℕ = λ b. fb_type_text a.file.now (place_in a.section) b.head b.fields in
-    let e = ap (λ x. lined x line) (sym c.next_fb_type.ensures ∙ ap fb_type_next_from c.in-Entry.is) in
-    let w = free-at (subst (PutsRestFree _ _ _ _) c.in-At.is c.put_with_fields.ensures) in
-    (_, left-more c.loop-rest.invariant.1 (omega arith) e (fb-types-fall a.file.now (place_in a.section)) w)
+    let e = ap (λ x. lined x line) (sym (rw c.in-Ok-Some.field-0-is at c.in-Ok-Some.ensures)) in
+    let fall = fb-types-fall a.file.now (place_in a.section) in
+    (left-more l.0 (omega (arith, l.1, l.2)) e fall (free-at c.in_ok-next-in-Ok-Some.ensures), omega (arith, l.1, l.2, fall c.loop-i._i _ _ _ e), l.2)
 
 pub shape_of-out : goal.shape_of-out
-shape_of-out c = wrote-length c.loop-rest.invariant.1.wrote
+shape_of-out c = wrote-length c.loop-i.invariant.0.wrote
 
 pub returns : goal.returns
-returns c = left_end c.loop-rest.invariant.1 (omega arith)
+returns c = let l = c.loop-i.invariant in left_end l.0 (omega (arith, l.1, l.2))

@@ -4,12 +4,12 @@ use Rattle.record.specs.Answers.{container_in}
 use Rattle.table_lines.proofs.Starts.{fb-types-start}
 use Rattle.table_lines.proofs.put_fb_types.Goals as goal
 
-pub returns-in-Refused : goal.returns-in-Refused
-returns-in-Refused c =
+pub returns-in-Err : goal.returns-in-Err
+returns-in-Err c =
     let a = c.args in
-    rw (← fb-types-start a.file.now (container_in a.c), ← c.fb_types.ensures, c.in-Refused.is) (puts-free c.put_text.ensures)
+    rw (← fb-types-start a.file.now (container_in a.c), ← c.in-Err.ensures) (puts-free c.put_text.ensures)
 
-pub returns-in-Start : goal.returns-in-Start
-returns-in-Start c =
+pub returns-in-Ok : goal.returns-in-Ok
+returns-in-Ok c =
     let a = c.args in
-    rw (← fb-types-start a.file.now (container_in a.c), ← c.fb_types.ensures, c.in-Start.is) c.put_fb_entries.ensures
+    rw (← fb-types-start a.file.now (container_in a.c), ← c.in-Ok.ensures) c.put_fb_entries.ensures

@@ -2,8 +2,5 @@
 use Rattle.lent.proofs.Fitting.{puts-free}
 use Rattle.table_lines.proofs.put_from.Goals as goal
 
-pub returns-in-Refused : goal.returns-in-Refused
-returns-in-Refused c = rw c.in-Refused.is (puts-free c.put_text.ensures)
-
-pub returns-in-Start : goal.returns-in-Start
-returns-in-Start c = rw c.in-Start.is c.put_entries.ensures
+pub returns-in-Err : goal.returns-in-Err
+returns-in-Err c = rw c.in-Err.is (puts-free c.put_text.ensures)

@@ -1,16 +1,5 @@
--- `task_table::program` meets its contract: the section's place decides.
-use native.Mathlib.Omega.{arith}
-use Rattle.base.proofs.FileLookups.{lookup-refused, lookup-found}
+use Rattle.base.proofs.FileLookups.{lookup_ok}
 use Rattle.task_table.proofs.program.Goals as goal
 
-pub overflow_add-end : goal.overflow_add-end
-overflow_add-end c = omega (arith, rw c.in-Part.is at c.section_part.ensures.1)
-
-pub slice_bounds-find_program-end : goal.slice_bounds-find_program-end
-slice_bounds-find_program-end c = omega (arith, rw c.in-Part.is at c.section_part.ensures.1)
-
-pub returns-in-Refused : goal.returns-in-Refused
-returns-in-Refused c = lookup-refused _ _ _ _ (rw c.in-Refused.is at c.section_part.ensures.0)
-
-pub returns-in-Part : goal.returns-in-Part
-returns-in-Part c = lookup-found _ _ _ _ (rw c.in-Part.is at c.section_part.ensures.0) c.find_program.ensures
+pub returns : goal.returns
+returns c = lookup_ok _ _ _ _ _ _ c.in_ok-section_cut.ensures c.find_program.ensures

@@ -1,16 +1,16 @@
--- `task_table::programs` meets its contract: the section's place decides.
-use native.Mathlib.Omega.{arith}
-use Rattle.base.proofs.FileLookups.{lookup-refused, lookup-found}
+-- `task_table::programs` meets its contract: the counts say where the table is.
+use Rattle.std.proofs.Common.{ap, ◌∙◌}
+use Rattle.std.proofs.lemmas.Result.{err_from_is_err_and}
+use Rattle.reading.specs.Answer.{found}
+use Rattle.base.proofs.FileLookups.{lookup_ok}
+use Rattle.task_table.specs.Lookups.{program_entries}
+use Rattle.task_table.proofs.Tables.{counts-refused, start}
 use Rattle.task_table.proofs.programs.Goals as goal
 
-pub overflow_add-end : goal.overflow_add-end
-overflow_add-end c = omega (arith, rw c.in-Part.is at c.section_part.ensures.1)
+pub returns-in_err-read_from : goal.returns-in_err-read_from
+returns-in_err-read_from c =
+    let e = err_from_is_err_and c.from_residual-in_err-read_from.result c.from_residual-in_err-read_from.ensures.1 in
+    rw (e.1, e.2) (lookup_ok _ _ _ _ _ _ c.in_ok-section_cut.ensures (counts-refused _ _ _ c.in_err-read_from.ensures))
 
-pub slice_bounds-start_programs-end : goal.slice_bounds-start_programs-end
-slice_bounds-start_programs-end c = omega (arith, rw c.in-Part.is at c.section_part.ensures.1)
-
-pub returns-in-Refused : goal.returns-in-Refused
-returns-in-Refused c = lookup-refused _ _ _ _ (rw c.in-Refused.is at c.section_part.ensures.0)
-
-pub returns-in-Part : goal.returns-in-Part
-returns-in-Part c = lookup-found _ _ _ _ (rw c.in-Part.is at c.section_part.ensures.0) c.start_programs.ensures
+pub returns : goal.returns
+returns c = lookup_ok _ _ _ _ _ _ c.in_ok-section_cut.ensures (ap found c.program_entries.ensures ∙ start _ _ c.in_ok-read_from.ensures program_entries)

@@ -1,40 +1,35 @@
-use mathlib.Core.Path.{sym}
+use mathlib.Core.Path.{sym, ap, ◌∙◌}
 use native.Mathlib.Omega.{arith}
 use borrow.Author.Tests.{le-leb, lt-leb}
 use lib.ListN.{length, get_or}
 use lib.Seq.{take_all}
 use Rattle.text.specs.Text.{numbers}
-use Rattle.text.proofs.Parts.{numbers-part, numbers-next, digits-short}
+use Rattle.text.proofs.Parts.{numbers_part, numbers-next, std_decimal}
 use Rattle.text.proofs.numbers_fit.Goals as goal
 
-pub loop-i-init : goal.loop-i-init
+pub loop-n-init : goal.loop-n-init
 unfolding numbers
-loop-i-init c = (omega arith, omega arith)
-
-pub overflow_add-size : goal.overflow_add-size
-overflow_add-size c =
-    let ns = c.args.ns.now in
-    omega (arith, digits-short 20 (get_or ns c.loop-i.i 0))
+loop-n-init c = omega arith
 
 pub returns-then-rest-size : goal.returns-then-rest-size
 returns-then-rest-size c =
-    let l = c.loop-i in
+    let l = c.loop-n in
     let a = c.args in
     let ns = a.ns.now in
-    let h = l.invariant.1 in
-    sym (lt-leb (length (numbers ns)) a.left (omega (arith, numbers-part ns l.i (omega arith))))
+    let d = ap length (c.format.ensures.text ∙ std_decimal (get_or ns l.n-index 0) (omega (arith, c.type_inv.ns l.n-index))) in
+    sym (lt-leb (length (numbers ns)) a.left (omega (arith, numbers_part ns l.n-index (omega arith))))
 
-pub loop-i-preserved : goal.loop-i-preserved
-loop-i-preserved c =
-    let l = c.loop-i in
+pub loop-n-preserved : goal.loop-n-preserved
+loop-n-preserved c =
+    let l = c.loop-n in
     let ns = c.args.ns.now in
-    let h = l.invariant.1 in
-    (omega arith, omega (arith, numbers-next ns l.i (omega arith)))
+    let d = ap length (c.format.ensures.text ∙ std_decimal (get_or ns l.n-index 0) (omega (arith, c.type_inv.ns l.n-index))) in
+    omega (arith, numbers-next ns l.n-index (omega arith))
 
 pub returns : goal.returns
 returns c =
-    let l = c.loop-i in
+    let l = c.loop-n in
     let a = c.args in
     let ns = a.ns.now in
-    let h = rw (take_all l.i ns (omega arith)) at l.invariant.1 in
+    let h = rw (take_all l.n-index ns (omega arith)) at l.invariant in
     sym (le-leb (length (numbers ns)) a.left (omega arith))

@@ -4,25 +4,25 @@ use lib.ListN.{take}
 use lib.Seq.{length-take-le}
 use Rattle.text.specs.Text.{hexes}
 use Rattle.lent.proofs.Writing.{so-far-start, so-far-next, so-far-end}
-use Rattle.text.proofs.Parts.{hexes-append, hexes-length}
+use Rattle.text.proofs.Parts.{hexes-append, hexes_length}
 use Rattle.text.proofs.put_hex.Goals as goal
 
-pub loop-i-init : goal.loop-i-init
+pub loop-byte-init : goal.loop-byte-init
 unfolding hexes
-loop-i-init c = so-far-start hexes _ _ _ refl (omega arith)
+loop-byte-init c = so-far-start hexes _ _ _ refl (omega arith)
 
 pub put_hex_byte-next-requires : goal.put_hex_byte-next-requires
 put_hex_byte-next-requires c =
-    let l = c.loop-i in
+    let l = c.loop-byte in
     let bytes = c.args.bytes.now in
-    omega (arith, length-take-le l.i bytes l.invariant.most, hexes-length (take l.i bytes), hexes-length bytes)
+    omega (arith, length-take-le l.byte-index bytes l.invariant.most, hexes_length (take l.byte-index bytes), hexes_length bytes)
 
-pub loop-i-preserved : goal.loop-i-preserved
+pub loop-byte-preserved : goal.loop-byte-preserved
 unfolding hexes
-loop-i-preserved c =
-    let l = c.loop-i in
+loop-byte-preserved c =
+    let l = c.loop-byte in
     let bytes = c.args.bytes.now in
-    so-far-next hexes _ _ _ l.invariant (omega arith) (hexes-append (take l.i bytes) _) c.put_hex_byte-next.auto.out c.put_hex_byte-next.ensures
+    so-far-next hexes _ _ _ l.invariant (omega arith) (hexes-append (take l.byte-index bytes) _) c.put_hex_byte-next.auto.out c.put_hex_byte-next.ensures
 
 pub returns : goal.returns
-returns c = so-far-end hexes _ _ _ c.loop-i.invariant (omega arith)
+returns c = so-far-end hexes _ _ _ c.loop-byte.invariant (omega arith)

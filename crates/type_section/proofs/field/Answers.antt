@@ -1,30 +1,6 @@
 -- `type_section::field` meets its contract: the section's place decides, and then the section's bytes.
-use native.Mathlib.Omega.{arith}
-use Prim.Native.Nat.{◌+◌, ◌≤◌}
-use lib.ListN.{length}
-use Rattle.base.specs.Section.{place_in}
-use Rattle.format.specs.Lookups.{field_of}
-use Rattle.format.specs.Types.{type_tables}
-use Rattle.base.proofs.FileLookups.{lookup-refused, lookup-found}
+use Rattle.base.proofs.FileLookups.{lookup_ok}
 use Rattle.type_section.proofs.field.Goals as goal
-use Rattle.type_section.proofs.field.Goals.{In-Part}
 
--- the section's part lies in the file
-ends : (c : In-Part) → c.in-Part.p.offset + c.in-Part.p.size ≤ length c.args.file.now
-ends c = rw c.in-Part.is at c.section_part.ensures.1
-
-pub overflow_add-end : goal.overflow_add-end
-overflow_add-end c = omega (arith, ends (goal.at.overflow_add-end c).In-Part)
-
-pub slice_bounds-find_field-end : goal.slice_bounds-find_field-end
-slice_bounds-find_field-end c = omega (arith, ends (goal.at.slice_bounds-find_field-end c).In-Part)
-
-pub returns-in-Refused : goal.returns-in-Refused
-returns-in-Refused c =
-    let a = c.args in
-    lookup-refused a.file.now (place_in a.section) type_tables (field_of a.index a.field) (rw c.in-Refused.is at c.section_part.ensures.0)
-
-pub returns-in-Part : goal.returns-in-Part
-returns-in-Part c =
-    let a = c.args in
-    lookup-found a.file.now (place_in a.section) type_tables (field_of a.index a.field) (rw c.in-Part.is at c.section_part.ensures.0) c.find_field.ensures
+pub returns : goal.returns
+returns c = lookup_ok _ _ _ _ _ _ c.in_ok-section_cut.ensures c.find_field.ensures

@@ -1,6 +1,7 @@
 -- `wide::rounds` meets its contract: each round takes the message permuted once more than the one before.
-use Rattle.unrolled.proofs.Seven.{seven}
+use Rattle.compression.specs.Compression.{rounds}
 use Rattle.wide.proofs.rounds.Goals as goal
 
 pub returns : goal.returns
-returns c = search seven
+unfolding rounds
+returns c = cc

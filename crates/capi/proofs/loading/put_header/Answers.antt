@@ -5,4 +5,4 @@ use Rattle.capi.proofs.loading.put_header.Goals as goal
 pub returns : goal.returns
 returns c =
     wrote_as (rw (c.head-first.ensures, c.directory-places.ensures, c.runtime-numbers.ensures))
-    (wrote_then (wrote_then c.put_u64s-n.ensures c.put_u64s-m.ensures) c.put_u64s.ensures)
+    (wrote_then (wrote_then c.put-n.ensures c.put-m.ensures) c.put.ensures)

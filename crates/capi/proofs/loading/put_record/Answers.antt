@@ -5,8 +5,8 @@ use Rattle.record.specs.Answers.{container_in}
 use Rattle.record_numbers.proofs.Laws.{laws}
 use Rattle.capi.proofs.loading.put_record.Goals as goal
 
-pub put_u64s-requires : goal.put_u64s-requires
-put_u64s-requires c =
+pub put-requires : goal.put-requires
+put-requires c =
     let w = c.put_lookup_numbers-n.ensures in
     let n = w.next in
     let l = wrote-length w in
@@ -14,4 +14,4 @@ put_u64s-requires c =
     omega (arith, (laws.how-many (container_in c.args.c)).0)
 
 pub returns : goal.returns
-returns c = wrote_as (rw c.in_force-rows.ensures) (wrote_then c.put_lookup_numbers-n.ensures c.put_u64s.ensures)
+returns c = wrote_as (rw c.in_force-rows.ensures) (wrote_then c.put_lookup_numbers-n.ensures c.put.ensures)

@@ -1,7 +1,5 @@
-use mathlib.Core.Path.{◌≡◌, ap, ◌∙◌}
-use native.Mathlib.Omega.{arith}
+use Rattle.std.proofs.Common.{◌≡◌, ap, ◌∙◌, arith}
 use Rattle.format.specs.InForce.{in_force_of}
-use Rattle.debug_tables.specs.Answers.{kind_in, rows_in_force}
 use Rattle.debug_tables.proofs.Rows.{no-count, few-rows}
 use Rattle.debug_tables.proofs.LaterRows.{first_rows, short-rows, no_rows, counts-fit, next_row, all-rows}
 use Rattle.debug_tables.proofs.in_force.rows_in_force.Goals as goal
@@ -15,27 +13,18 @@ returns-then-s-n c =
     c.none_in_force-then-s-n.ensures ∙ short-rows s (few-rows s c.u16_at-n.result (omega arith) c.u16_at-n.ensures c.if-s-n.true)
 
 pub loop-i-init : goal.loop-i-init
-loop-i-init c = (omega arith, omega arith, c.none_in_force-rows.ensures ∙ no_rows c.args.s.now)
+loop-i-init c = c.none_in_force-rows.ensures ∙ no_rows c.args.s.now
 
 pub put_row-rows-requires : goal.put_row-rows-requires
-put_row-rows-requires c =
-    let l = c.loop-i in
-    counts-fit c.args.s.now l.i l.rows (omega arith) l.invariant.2
+put_row-rows-requires c = let l = c.loop-i in counts-fit c.args.s.now l.i l.rows (omega arith) l.invariant
 
 pub loop-i-preserved : goal.loop-i-preserved
 loop-i-preserved c =
-    let l = c.loop-i in (
-      omega arith,
-      l.invariant.1,
-      c.put_row-rows.ensures
-          ∙ next_row c.args.s.now l.i c.u16_at.result (kind_in c.kind_of-kind.result)
-          (rows_in_force l.rows) c.u16_at.ensures c.kind_of-kind.ensures l.invariant.2,
-    )
+    c.put_row-rows.ensures ∙ next_row c.args.s.now _ _ _ _ c.u16_at.ensures c.from-kind.ensures c.loop-i.invariant
 
 pub returns : goal.returns
 returns c =
     let s = c.args.s.now in
-    let l = c.loop-i in
     let n = c.u16_at-n.result in
-    let z : l.i ≡ n = omega arith in
-    l.invariant.2 ∙ ap (λ k. in_force_of (first_rows s k)) z ∙ all-rows s n l.invariant.1 c.u16_at-n.ensures
+    let z : c.loop-i.i ≡ n = omega arith in
+    c.loop-i.invariant ∙ ap (λ k. in_force_of (first_rows s k)) z ∙ all-rows s n c.if-s-n.false c.u16_at-n.ensures

@@ -1,15 +1,12 @@
 -- `record::Container::line` meets its contract: 10 or 15 where the record has no debug, else what the debug section answers.
-use Rattle.reading.specs.Answer.{indexed}
-use Rattle.format.specs.Faults.{no_entry}
-use Rattle.record.proofs.Lookups.{debug-absent, debug-present}
+use Rattle.std.proofs.lemmas.Result.{err_from_is_err_and}
+use Rattle.record.proofs.Lookups.{debug_err, debug_ok}
 use Rattle.record.proofs.Container.line.Goals as goal
 
-pub returns-in-None : goal.returns-in-None
-returns-in-None c =
-    let a = c.args in
-    debug-absent a.file.now a.self (λ t. indexed no_entry t.lines a.index) c.in-None.is c.absent.ensures
+pub returns-in_err-debug_section : goal.returns-in_err-debug_section
+returns-in_err-debug_section c =
+    let e = err_from_is_err_and c.from_residual.result c.from_residual.ensures.1 in
+    rw (e.1, e.2) (debug_err _ _ _ _ c.in_err-debug_section.ensures)
 
-pub returns-in-Some : goal.returns-in-Some
-returns-in-Some c =
-    let a = c.args in
-    debug-present a.file.now a.self (λ t. indexed no_entry t.lines a.index) c.in-Some.is c.line.ensures
+pub returns : goal.returns
+returns c = debug_ok _ _ _ _ _ c.in_ok-debug_section.ensures c.line.ensures

@@ -1,13 +1,7 @@
-use mathlib.Core.Path.{refl, sym, ◌∙◌}
+use mathlib.Core.Path.{sym, ◌∙◌}
 use native.Mathlib.Omega.{arith}
-use Rattle.record_numbers.proofs.Fitting.{too_short, too-large-at, fits-step, fits-end}
+use Rattle.record_numbers.proofs.Bounds.{too-large-at, fits-step, fits-end}
 use Rattle.record_numbers.proofs.back.all_fit.Goals as goal
-
-pub loop-i-init : goal.loop-i-init
-loop-i-init c = (omega arith, refl)
-
-pub returns-then-i-numbers : goal.returns-then-i-numbers
-returns-then-i-numbers c = let a = c.args in sym (too_short a.most.now a.numbers.now (omega arith))
 
 pub returns-then-numbers-i : goal.returns-then-numbers-i
 returns-then-numbers-i c = let a = c.args in sym (too-large-at a.most.now a.numbers.now c.loop-i.i (omega arith) c.if-numbers-i.true)
@@ -16,7 +10,7 @@ pub loop-i-preserved : goal.loop-i-preserved
 loop-i-preserved c =
     let a = c.args in
     let l = c.loop-i in
-    (omega arith, sym (fits-step a.most.now a.numbers.now l.i (omega arith) (omega arith) c.if-numbers-i.false) ∙ l.invariant.1)
+    sym (fits-step a.most.now a.numbers.now l.i (omega arith) (omega arith) c.if-numbers-i.false) ∙ l.invariant
 
 pub returns : goal.returns
-returns c = let a = c.args in let l = c.loop-i in sym (fits-end a.most.now a.numbers.now l.i (omega arith)) ∙ l.invariant.1
+returns c = let a = c.args in let l = c.loop-i in sym (fits-end a.most.now a.numbers.now l.i (omega arith)) ∙ l.invariant

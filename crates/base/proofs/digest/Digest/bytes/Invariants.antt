@@ -1,10 +1,7 @@
--- `base::digest::Digest::bytes` meets its contract. The loop's invariant: the first i bytes are those of the words.
-use Prim.Native.Nat.{◌-◌}
+-- `base::digest::Digest::bytes` meets its contract. The loop's invariant: the bytes of the first i words are there.
+use Rattle.std.proofs.Common.{◌*◌}
 use Rattle.base.proofs.Bytes.{Written}
 use Rattle.base.proofs.digest.Digest.bytes.Given as goal
 
 abbrev pub invariant-loop-i : goal.invariant-loop-i
-invariant-loop-i l = Written l.words l.b l.i
-
-abbrev pub decreases-loop-i : goal.decreases-loop-i
-decreases-loop-i l = 32 - l.i
+invariant-loop-i l = Written l.fn.self.0 l.b (4 * l.i)

@@ -1,5 +1,0 @@
--- `header::section_at` meets its contract: two numbers.
-use Rattle.header.proofs.section_at.Goals as goal
-
-pub returns : goal.returns
-returns c = rw (c.u32_at.ensures, c.u32_at-2.ensures)

@@ -1,8 +1,0 @@
--- `lent::u16_bytes` meets its contract: the definition, written out.
-use mathlib.Core.Path.{refl}
-use Rattle.reading.specs.Numbers.{bytes_le}
-use Rattle.lent.proofs.u16_bytes.Goals as goal
-
-pub returns : goal.returns
-unfolding bytes_le
-returns c = refl

@@ -1,5 +1,0 @@
--- The measure of `text::put_digits` is how many digits it may still write.
-use Rattle.text.proofs.+put_digits.Given as goal
-
-abbrev pub decreases-put_digits : goal.decreases-put_digits
-decreases-put_digits l = l.most
