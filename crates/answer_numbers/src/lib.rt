@@ -63,6 +63,7 @@ pub fn refusal(e: ContainerError) -> Numbers
 }
 
 // What an answer has that is no refusal: document 01's answer that it stands for, and the numbers of that.
+// Kept: an impl for each type, since each lists other fields; they have no more in common than the call of `of`.
 pub trait InNumbers: Copy {
     ghost Kept: { Type 0 };
 

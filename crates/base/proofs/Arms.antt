@@ -2,23 +2,16 @@
 use Prim.Native.Nat.{ℕ, zero, suc, ◌≤◌}
 use native.Mathlib.Omega.{arith}
 use mathlib.Core.Path.{◌≡◌, refl}
-use mathlib.Core.Bool.{false, not}
 use mathlib.Core.List.{List, [], ◌∷◌}
-use mathlib.Core.Option.{none}
 use lib.Dec.{leb}
 use lib.ListN.{length}
 use borrow.Author.Tests.{lt-leb}
-use types.Run.{OneOf, miss}
+use types.Run.{OneOf}
 use denote.Enum.Declared.{declared, tag_of}
 use Rattle.reading.specs.Fault.{Fault}
 use Rattle.reading.specs.Answer.{refused, found, ◌>>◌, need}
-use Rattle.format.specs.Constants.{is_number}
 use Rattle.base.specs.Error.{fault_of, refusal_values, kept_values, values_of}
-use Rattle.base.specs.Small.{const_type_number, width_of_type}
-use Rattle.base.specs.declared.const_type.ConstType.{ConstType}
-use Rattle.base.specs.declared.const_type.ConstType.TheVariants as const
 use Rattle.base.specs.declared.error.ContainerError.{ContainerError}
-use Rattle.base.specs.contracts.const_type.ConstType.{the_type as const-type}
 use Rattle.base.specs.contracts.error.ContainerError.{enum as error}
 use Rattle.base.proofs.Variants.{all_but, last_arm}
 
@@ -41,16 +34,6 @@ above top v f h = rw (lt-leb v top (missed (suc top) v h))
 -- a constant whose type is neither Str nor WStr
 abbrev numbers : List ℕ
 numbers = 0 ∷ 1 ∷ 2 ∷ 3 ∷ 4 ∷ 5 ∷ []
-
-pub no-string : (t : ConstType) → OneOf numbers (tag_of const-type t) → (none ≡ width_of_type (const_type_number t)) × (false ≡ not (is_number (const_type_number t)))
-no-string const.I32 h = (refl, refl)
-no-string const.U32 h = (refl, refl)
-no-string const.I64 h = (refl, refl)
-no-string const.U64 h = (refl, refl)
-no-string const.F32 h = (refl, refl)
-no-string const.F64 h = (refl, refl)
-no-string const.Str h = absurd (miss numbers 6 tt h)
-no-string const.WStr h = absurd (miss numbers 7 tt h)
 
 -- a refusal that names no value: all but those of types, of strides and of indexes
 abbrev plain : List ℕ

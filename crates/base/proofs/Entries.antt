@@ -1,17 +1,19 @@
 -- Walks over the entries of a table, by what the reader of one entry answers.
-use Rattle.std.proofs.Common.{◌≡◌, ℕ, ◌+◌, ◌-◌, ◌≤◌, ◌<◌, List, length, drop, refl, ap, ◌∙◌}
-use Rattle.std.specs.Prelude.{min}
-use Rattle.std.proofs.lemmas.List.{drop_min}
+use Rattle.std.proofs.Common.{◌≡◌, ℕ, ◌+◌, ◌*◌, ◌-◌, ◌^◌, ◌≤◌, ◌<◌, List, length, drop, refl, sym, ap, ◌∙◌, arith}
+use Rattle.std.specs.Prelude.{min, Option, Some, None, Ok, ok_or}
+use Rattle.std.proofs.lemmas.List.{drop_min, drop-drop, length-drop}
 use Rattle.reading.specs.Fault.{Fault, short_input}
 use Rattle.reading.specs.Reader.{fault, got, Reader, many}
-use Rattle.reading.specs.Places.{stops, item, step_at, stops_by, on_to, way_given, way_at, faulty, entry, step_of}
+use Rattle.reading.specs.Places.{stops, item, step_at, stops_by, on_to, way_given, way_at, left_of, faulty, entry, step_of}
 use Rattle.reading.specs.declared.Table.{Table}
 use Rattle.reading.proofs.Left.{Stays, stays-many}
 use Rattle.reading.proofs.Given.{reads_at, goes_at, step-at, way-at}
-use Rattle.reading.specs.Answer.{refused, found}
+use Rattle.reading.specs.Answer.{refused, found, indexed}
+use Rattle.base.specs.Answers.{got_by, found_by, way_by, way_if_there}
 use Rattle.base.specs.Picked.{picked}
 use Rattle.base.proofs.Picked.{picked_stop, picked_read}
-use Rattle.reading.proofs.Width.{Needs, needs-at}
+use Rattle.reading.proofs.Width.{Width, Needs, Fixed, needs-at, fixed-at, fixed-many}
+use Rattle.reading.proofs.Tables.{At, at_width, at_reads, at-picked, index-out}
 use Rattle.reading.proofs.Passing.{Passed, passed-all, passed-stop, passed-more}
 use Rattle.base.proofs.FileLookups.{step-stops, step-entry}
 
@@ -63,3 +65,45 @@ module _ {A : Type 0} (r : Reader A) (s : List ℕ) (h : Stays s r) where
 
       pub find_ok : (a : A) (m : ℕ) → item a m ≡ step_at r s p → found a ≡ picked r s at n k
       find_ok a m d = picked_read r s at n k p {v = item a m} l (goes_at (stays-many s k h) at e) refl (reads_at h p d)
+
+-- `n` entries of one width that no content refuses, from `at` on or from the end of `s` where that is nearer
+module _ {A : Type 0} (r : Reader A) (s : List ℕ) {w : ℕ} (h : Fixed w r) (n at : ℕ) where
+  pub pass_short : length s - min at (length s) < w * n → stops_by short_input ≡ way_at (many n r) s at
+  pass_short l = way-at (many n r) s (min at (length s)) (stops_by short_input) (needs-at (fixed-many n h).short s (min at (length s)) l) ∙ way_near (many n r) s at
+
+  pub pass_whole : w * n ≤ length s - min at (length s) → on_to (min at (length s) + w * n) ≡ way_at (many n r) s at
+  pass_whole l =
+      let i : min at (length s) + w * n ≤ length s = omega arith in
+      way-at (many n r) s (min at (length s)) (on_to (min at (length s) + w * n)) (i, fixed-at (fixed-many n h) s (min at (length s)) i) ∙ way_near (many n r) s at
+
+-- an entry at an index of a table whose entries have one width
+module _ {A : Type 0} (r : Reader A) (s : List ℕ) (t : Table) (k : ℕ) where
+  pub width_out : t.count ≤ k → (xs : List A) (rest : List ℕ) → left_of r s t ≡ got xs rest → (out : Fault) → refused out ≡ indexed out xs k
+  width_out l xs rest e out = sym (index-out r k t.count (drop t.at s) xs rest out l e)
+
+  module _ (w : ℕ) (q : (0 < w) × Width w r) (l : k < t.count) (xs : List A) (rest : List ℕ) (d : left_of r s t ≡ got xs rest) where
+    there : At r xs k (drop (t.at + w * k) s)
+    there = rw drop-drop at (at_width r q.1 k t.count (drop t.at s) xs rest l d)
+
+    width_fits : t.at + w * k + w ≤ length s
+    width_fits = omega (arith, q.0, (q.1.takes (drop (t.at + w * k) s) there.item there.behind there.reads).1, length-drop (t.at + w * k) s)
+
+    module _ (u : length s < 2 ^ 64) (h : Stays s r) (m : ℕ) (z : m ≡ min (t.at + min (w * k) (2 ^ 64 - 1)) (2 ^ 64 - 1)) where
+      place : m ≡ t.at + w * k
+      place = omega (arith, z, u, width_fits)
+
+      pub width_stop : (f : Fault) → stops f ≡ step_at r s m → (out : Fault) → refused f ≡ indexed out xs k
+      width_stop f e out = absurd (at_reads r there f (reads_at h (t.at + w * k) (rw place at e)))
+
+      pub width_found : (a : A) (p : ℕ) → item a p ≡ step_at r s m → (out : Fault) → found a ≡ indexed out xs k
+      width_found a p e out = sym (at-picked r there a (drop p s) (reads_at h (t.at + w * k) (rw place at e)).1 out)
+
+-- a lookup that may find nothing, once it is said what that means
+pub or_out : {E T A : Type 0} (told : E → Fault) (view : T → A) (e : E) (x : Option T) → got_by told view (ok_or x e) ≡ found_by told view (told e) (Ok x)
+or_out told view e None = refl
+or_out told view e (Some x) = refl
+
+-- plain entries that are passed over, once it is said which error means that they are not all there
+pub or_there : {E : Type 0} (told : E → Fault) (e : E) → told e ≡ short_input → (x : Option ℕ) → way_by told (ok_or x e) ≡ way_if_there x
+or_there told e h None = ap stops_by h
+or_there told e h (Some m) = refl

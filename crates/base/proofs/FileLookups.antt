@@ -2,53 +2,36 @@
 -- bytes; one step of a walk; the place of a part of a section; the bytes of an answered part.
 use mathlib.Core.Path.{◌≡◌, refl, sym, ap, ◌∙◌}
 use mathlib.Core.Bool.{Bool, true, false, cond}
-use mathlib.Core.List.{List, []}
-use Prim.Native.Nat.{ℕ, ◌+◌, ◌-◌, ◌≤◌, ◌<◌}
-use native.Mathlib.Nat.{add-sub_cancel_left}
+use mathlib.Core.List.{List}
+use Prim.Native.Nat.{ℕ, ◌+◌, ◌-◌, ◌≤◌}
 use native.Mathlib.Omega.{arith}
 use lib.Dec.{leb, eqb}
 use lib.ListN.{length, take, drop, length-drop}
 use borrow.Author.Tests.{eq-eqb, ne_eqb}
-use Rattle.reading.specs.Fault.{Fault, short_input}
+use Rattle.reading.specs.Fault.{Fault}
 use Rattle.reading.specs.Reader.{Read, fault, got, Reader}
 use Rattle.reading.specs.Answer.{Got, refused, found, ◌>>=◌, need, item_of}
-use Rattle.reading.specs.Places.{Step, stops, item, Reads, Next, ends, faulty, entry, next_of, step_of}
+use Rattle.reading.specs.Places.{Step, stops, item, Next, ends, faulty, entry, next_of, step_of}
 use Rattle.reading.specs.declared.Table.{Table}
-use Rattle.reading.proofs.Passing.{reads-told}
-use Rattle.reading.proofs.Width.{Needs, needs-at}
 use Rattle.format.specs.Faults.{too_long, section_size_mismatch}
 use Rattle.format.specs.Parts.{limit, Place, cut, is_inside, Inside, by_place}
 use Rattle.format.specs.Integrity.{section_in}
 use Rattle.format.specs.Load.{read_in}
 use Rattle.format.specs.Lookups.{read_at}
-use Rattle.format.proofs.Answers.{never, refused-then, refused-first, found_first, same-found}
+use Rattle.format.proofs.Answers.{never, same-found}
 use Rattle.format.proofs.Places.{inside_is}
-use Rattle.base.specs.Section.{section_part, opened, section_cut, step_by, step_in, bytes_or}
+use Rattle.base.specs.Section.{section_part, opened, section_cut, step_by, step_in}
 use Rattle.base.proofs.Sections.{section-refused, section-found}
 
 -- `&f[start..end]`, where `end` is `start + size`
 abbrev pub sliced : List ℕ → Place → List ℕ
 sliced f q = take (q.offset + q.size - q.offset) (drop q.offset f)
 
-pub slice_is : (f : List ℕ) (q : Place) → sliced f q ≡ cut f q
-slice_is f q = rw add-sub_cancel_left
-
--- an answer, by what another that begins alike answers
-module _ {A : Type 0} where
-  other-found : {B C : Type 0} (m : A → B) (c : C) {b : B} (x : Got A) → found b ≡ (x >>= λ a. found (m a)) → found c ≡ (x >>= λ a. found c)
-  other-found m c (refused d) k = never (sym k)
-  other-found m c (found a) k = refl
-
 module _ (f : List ℕ) (p : Place) where
   -- a lookup, by what the section's part of the file is
   module _ {A B : Type 0} (r : Reader A) (go : A → Got B) where
     pub lookup-refused : {e : Fault} → refused e ≡ section_part f p → refused e ≡ (read_at f p r >>= go)
     lookup-refused {e} h = rw (← section-refused f p r e h)
-
-    pub lookup-found : {q : Place} {x : Got B} → found q ≡ section_part f p → x ≡ (item_of (r (sliced f q)) >>= go) → x ≡ (read_at f p r >>= go)
-    lookup-found {q} h k =
-        let s = section-found f p r q h in
-        k ∙ ap (λ (b : List ℕ). item_of (r b) >>= go) (slice_is f q ∙ ap (cut f) s.same) ∙ ap (λ (y : Got A). y >>= go) (sym s.reads)
 
     -- the same by the section's bytes
     pub lookup_err : (e : Fault) → refused e ≡ section_cut f p → refused e ≡ (read_at f p r >>= go)
@@ -83,27 +66,10 @@ module _ (f : List ℕ) (p : Place) where
         at true false m i h = never (sym h)
         at false z m i h = never (sym h)
 
-    -- a lookup that goes on where another one ends
-    pub getter-refused : {C : Type 0} (h : A → B → Got C) {e : Fault} → refused e ≡ (read_at f p r >>= go) → refused e ≡ (read_at f p r >>= λ a. go a >>= h a)
-    getter-refused h k = refused-first (read_at f p r) go h _ (sym k)
-
-    pub getter-found : {C : Type 0} (h : B → Got C) {b : B} → found b ≡ (read_at f p r >>= go) → h b ≡ (read_at f p r >>= λ a. go a >>= h)
-    getter-found h k = found_first (read_at f p r) go h _ (sym k)
-
-    -- where a walk starts, by whether the section reads
-    pub start-refused : {C : Type 0} (m : A → C) {q : Place} {e : Fault} → found q ≡ section_part f p → refused e ≡ (item_of (r (sliced f q)) >>= λ a. found (m a)) → refused e ≡ (read_at f p r >>= go)
-    start-refused m {q} h k = lookup-found h (refused-then (item_of (r (sliced f q))) m go _ k)
-
-  pub start-good : {A B C : Type 0} (r : Reader A) (m : A → C) {q : Place} {b : B} {c : C} → found q ≡ section_part f p → found c ≡ (item_of (r (sliced f q)) >>= λ a. found (m a)) → found b ≡ (read_at f p r >>= λ a. found b)
-  start-good r m {q} {b} h k = lookup-found r (λ a. found b) h (other-found m b (item_of (r (sliced f q))) k)
-
   -- a step of a walk
   module _ {A : Type 0} (r : Reader A) (t : Table) where
     pub step-refused : {e : Fault} → refused e ≡ section_part f p → faulty e ≡ step_in f p r t
     step-refused h = ap (λ (x : Got Place). step_by f x r t) h
-
-    pub step-found : {q : Place} {x : Next A} → found q ≡ section_part f p → x ≡ step_of r (sliced f q) t → x ≡ step_in f p r t
-    step-found {q} h k = k ∙ ap (λ (b : List ℕ). step_of r b t) (slice_is f q) ∙ ap (λ (x : Got Place). step_by f x r t) h
 
     -- the same by the section's bytes
     pub walk_err : (e : Fault) → refused e ≡ section_cut f p → faulty e ≡ step_in f p r t
@@ -121,14 +87,6 @@ module _ (f : List ℕ) (p : Place) where
         go (found o) i h =
             let z : c ≡ opened f o = same-found h in
             k ∙ ap (λ (y : Place × List ℕ). step_of r y.1 t) z ∙ ap (λ (x : Got Place). step_by f x r t) (sym i)
-
--- the bytes of an answered part
-module _ (f : List ℕ) (x : Got Place) where
-  pub bytes-refused : {e : Fault} → refused e ≡ x → [] ≡ bytes_or f x
-  bytes-refused h = ap (bytes_or f) h
-
-  pub bytes-found : {q : Place} → found q ≡ x → sliced f q ≡ bytes_or f x
-  bytes-found {q} h = slice_is f q ∙ ap (bytes_or f) h
 
 -- a part of a section, by its place `to` in the file
 pub placed : (p : Place) (body : List ℕ) (to size behind : ℕ) → length body ≡ size → to + size + behind ≡ p.offset + p.size
@@ -151,26 +109,12 @@ module _ {A : Type 0} (r : Reader A) (s : List ℕ) (t : Table) where
   unfolding step_of
   step-stops h k = rw (ne_eqb t.count 0 h, k)
 
-  pub step-short : {k : ℕ} → Needs k r → (t.count ≡ 0 → ⊥) → length s - t.at < k → faulty short_input ≡ step_of r s t
-  step-short n h l = step-stops h (needs-at n s t.at l)
-
   pub step-entry : {a : A} {m : ℕ} → (t.count ≡ 0 → ⊥) → m ≤ length s → r (drop t.at s) ≡ got a (drop m s) → entry a (record { at = m; count = t.count - 1 }) ≡ step_of r s t
   unfolding step_of
   step-entry {a} {m} h l k =
       let d = length-drop m s in
       let n : length s - length (drop m s) ≡ m = omega arith in
       rw (ne_eqb t.count 0 h, k, n)
-
-  -- by what was read there, and the arm of a `match` on the answer
-  pub step-read : {v w : Step A} → (t.count ≡ 0 → ⊥) → v ≡ w → Reads r s t.at v → next_by t w ≡ step_of r s t
-  step-read {v} {w} h e q = go w (reads-told r s t.at e q)
-    where
-      go : (w : Step A) → Reads r s t.at w → next_by t w ≡ step_of r s t
-      go (stops f) q = step-stops h q
-      go (item a m) q = step-entry h q.0 q.1
-
-  pub step_past : (w : ℕ) → Needs w r → 0 < w → (t.count ≡ 0 → ⊥) → length s < t.at → faulty short_input ≡ step_of r s t
-  step_past w e z h l = step-short e h (omega arith)
 
   -- a step over an entry leaves one entry fewer
   pub step_count : {a : A} {u : Table} → step_of r s t ≡ entry a u → u.count ≡ t.count - 1

@@ -2,17 +2,16 @@
 use mathlib.Core.Path.{◌≡◌, refl, sym}
 use mathlib.Core.Bool.{Bool, true, false, cond}
 use mathlib.Core.List.{List, map}
-use Prim.Native.Nat.{ℕ, zero, suc, ◌-◌, ◌≤◌, ◌<◌}
+use Prim.Native.Nat.{ℕ, ◌≤◌, ◌<◌}
 use native.Mathlib.Decide.{dec_le}
 use native.Mathlib.Omega.{arith}
 use lib.Dec.{ltb}
-use lib.ListN.{length, drop, length-drop}
+use lib.ListN.{drop}
 use borrow.Author.Tests.{lt-ltb, le-ltb}
-use Rattle.reading.specs.Fault.{Fault, short_input}
+use Rattle.reading.specs.Fault.{Fault}
 use Rattle.reading.specs.Reader.{Read, fault, got, Reader, next, give, many}
 use Rattle.reading.specs.Answer.{refused, found, ◌>>=◌ as ◌then◌, item_of, indexed}
 use Rattle.reading.specs.Places.{Step, stops, item, Reads, on_to, Goes}
-use Rattle.reading.proofs.Width.{Needs}
 use Rattle.reading.proofs.Passing.{reads-told}
 use Rattle.reading.proofs.Made.{made, many-made}
 use Rattle.reading.proofs.Tables.{answer_by, at-walked, index-out, never-stops}
@@ -28,14 +27,6 @@ module _ {A : Type 0} (r : Reader A) (s : List ℕ) where
     pub picked_stop : (f : Fault) → k < n → many k r (drop at s) ≡ fault f → refused f ≡ picked r s at n k
     unfolding picked
     picked_stop f h e = rw (lt-ltb k n h, e)
-
-    pub picked_past : (w : ℕ) → Needs w r → 0 < w → k < n → length s < at → refused short_input ≡ picked r s at n k
-    unfolding picked
-    picked_past w e z h l = rw (lt-ltb k n h) (go k (length-drop at s))
-      where
-        go : (j : ℕ) → length (drop at s) ≡ length s - at → refused short_input ≡ item_of (next (many j r (drop at s)) (λ before. r))
-        go zero d = rw (e (drop at s) (omega arith))
-        go (suc j) d = rw (e (drop at s) (omega arith))
 
     pub picked_read : (p : ℕ) {v w : Step A} → k < n → Goes (many k r) s at (on_to p) → v ≡ w → Reads r s p v → answer_by w ≡ picked r s at n k
     unfolding picked

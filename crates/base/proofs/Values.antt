@@ -1,10 +1,10 @@
 -- The values of a refusal, from those that the code keeps.
-use mathlib.Core.Path.{◌≡◌, refl, ap, ◌∙◌}
+use mathlib.Core.Path.{◌≡◌, refl}
 use mathlib.Core.List.{List, [], ◌∷◌}
 use Prim.Native.Nat.{ℕ, ◌≤◌}
 use native.Mathlib.Omega.{arith}
 use lib.ListN.{length, take}
-use Rattle.base.specs.Error.{fault_of, refusal_values, kept_values, values_of}
+use Rattle.base.specs.Error.{fault_of, refusal_values, kept_values}
 use Rattle.base.specs.declared.error.ContainerError.{ContainerError}
 use Rattle.base.specs.declared.error.Values.{Values}
 use Rattle.base.specs.contracts.error.ContainerError.{enum as error}
@@ -23,6 +23,3 @@ listed (v ∷ w ∷ x ∷ vs) h = absurd (omega arith)
 -- no refusal names more than two
 few : (x : ContainerError) → length (refusal_values (fault_of x)) ≤ 2
 few = every error (λ x. length (refusal_values (fault_of x)) ≤ 2) (omega arith) (omega arith)
-
-pub values_listed : (x : ContainerError) {v : Values} → v ≡ values_of (fault_of x) → first_of v ≡ refusal_values (fault_of x)
-values_listed x h = ap first_of h ∙ listed (refusal_values (fault_of x)) (few x)

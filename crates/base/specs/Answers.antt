@@ -1,6 +1,6 @@
 -- What an answer of the code is for a definition: `told` gives a refusal of the code as document 01's, and `view` says what the answer's value is.
 use Rattle.std.specs.Prelude.{ℕ, Option, Some, None, Result, Ok, Err}
-use Rattle.reading.specs.Fault.{Fault}
+use Rattle.reading.specs.Fault.{Fault, short_input}
 use Rattle.reading.specs.Answer.{Got, refused, found}
 use Rattle.reading.specs.Places.{Step, stops, item, Way, stops_by, on_to, Next, ends, faulty, entry}
 use Rattle.reading.specs.declared.Table.{Table}
@@ -39,6 +39,11 @@ module _ {E : Type 0} (told : E → Fault) where
   abbrev pub way_by : Result ℕ E → Way
   way_by (Err e) = stops_by (told e)
   way_by (Ok m) = on_to m
+
+-- where reading goes on after what was passed over; none where its bytes are not there
+abbrev pub way_if_there : Option ℕ → Way
+way_if_there None = stops_by short_input
+way_if_there (Some m) = on_to m
 
 -- The same where the code refuses with a row of document 01's table
 

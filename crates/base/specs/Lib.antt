@@ -5,3 +5,4 @@ pub mod Section
 pub mod Answers
 pub mod Cut
 pub mod Picked
+pub mod Indexing

@@ -31,10 +31,7 @@ impl CharWidth {
     pub fn is_wide(self) -> bool
         ensures { result ≡ is_wide self }
     {
-        match self {
-            CharWidth::Narrow => false,
-            CharWidth::Wide => true,
-        }
+        matches!(self, CharWidth::Wide)
     }
 }
 

@@ -39,11 +39,7 @@ impl ConstType {
     pub fn is_string_like(self) -> bool
         ensures { result ≡ not (is_number (const_type_number self)) }
     {
-        match self {
-            ConstType::Str => true,
-            ConstType::WStr => true,
-            _ => false,
-        }
+        matches!(self, ConstType::Str | ConstType::WStr)
     }
 }
 

@@ -1,14 +1,16 @@
 // Entries of a section's tables.
-ghost use Rattle.std.specs.Prelude.{ℕ, List, ◌≡◌, length};
+ghost use Rattle.std.specs.Prelude.{ℕ, List, ◌≡◌, ◌<◌, length};
 ghost use Rattle.reading.specs.Fault.{Fault};
 ghost use Rattle.reading.specs.Reader.{Reader, many};
 ghost use Rattle.reading.specs.Places.{step_at, way_at, step_of};
 ghost use Rattle.reading.proofs.Left.{Stays};
+ghost use Rattle.reading.proofs.Width.{Width, Fixed};
 ghost use Rattle.format.specs.Faults.{no_entry};
 ghost use Rattle.format.specs.Parts.{Place};
-ghost use Rattle.base.specs.Answers.{step_by, found_by, next_by, way_by};
+ghost use Rattle.base.specs.Answers.{step_by, found_by, next_by, way_by, way_if_there};
 ghost use Rattle.base.specs.Cut.{place_of};
 ghost use Rattle.base.specs.Picked.{picked};
+ghost use Rattle.base.specs.Indexing.{Indexes};
 
 use crate::cut::Cut;
 use reading::Table;
@@ -35,6 +37,21 @@ pub trait Entry: Copy {
 
     // What the reader leaves is what stands behind the entry.
     ghost stays: { (p : Place) (s : List ℕ) → Stays s (reader p) };
+}
+
+// An entry of a table whose entries all have one width.
+pub trait OneWidth: Entry {
+    // How many bytes it has.
+    const WIDTH: usize;
+
+    ghost WIDTH: { ℕ };
+
+    ghost width: { (p : Place) → (0 < WIDTH) × Width WIDTH (Self.reader p) };
+}
+
+// An entry of one width that no content refuses: it reads if its bytes are there.
+pub trait Plain: OneWidth {
+    ghost fixed: { (p : Place) → Fixed Self.WIDTH (Self.reader p) };
 }
 
 // Passes over `n` entries from `at` on.
@@ -75,4 +92,29 @@ pub fn step<E: Entry>(cut: Cut, t: Table) -> Result<Option<(E, Table)>, E::Error
             count: t.count - 1,
         },
     )))
+}
+
+// Passes over `n` plain entries from `at` on, without a look at them; none where they are not all there.
+pub fn pass<E: Plain>(cut: Cut, at: usize, n: usize) -> Option<usize>
+    ensures { way_if_there result ≡ way_at (many n (E.reader (place_of cut.entry))) cut.entry.bytes.now at }
+{
+    let at = at.min(cut.bytes.len());
+    let size = E::WIDTH.checked_mul(n)?;
+    if cut.left(at) < size {
+        return None;
+    }
+    Some(at + size)
+}
+
+// The entry of index `index` in a table whose entries have one width: none before it is read. The promise is for a table that reads.
+pub fn find_by_width<E: OneWidth>(cut: Cut, t: Table, index: u16) -> Result<Option<E>, E::Error>
+    ensures { Indexes (E.told cut.entry.bytes.now) E.kept (E.reader (place_of cut.entry)) cut.entry.bytes.now t index result }
+{
+    let index = index as usize;
+    if t.count <= index {
+        return Ok(None);
+    }
+    let at = t.at.saturating_add(E::WIDTH.saturating_mul(index));
+    let (entry, _) = E::read(cut, at)?;
+    Ok(Some(entry))
 }

@@ -31,6 +31,7 @@ pub enum ContainerError {
 }
 
 // The values that a refusal names: `count` of them, at most two, and zeros behind them.
+// Kept: two fields and a count, since there is no heap and the C library writes them one behind the other.
 #[derive(Clone, Copy)]
 pub struct Values {
     pub count: usize,

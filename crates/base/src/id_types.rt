@@ -1,4 +1,5 @@
 // Identifiers, each a type of its own: a FunctionId is never taken for a TaskId.
+// Kept: `new` and `raw` for each, as the Rust's derive makes them. A generic type would need a type for each kind beside it, and no macro may write an impl.
 ghost use Rattle.std.specs.Prelude.{◌≡◌};
 
 // A function, by its position in the code section's directory.

@@ -1,4 +1,5 @@
 // Numbers and digests in the buffers that the caller lends.
+// Kept: 0 for no room, since these counts are what C gets.
 ghost use Rattle.std.specs.Prelude.{◌≤◌, ◌≡◌, length};
 ghost use Rattle.base.specs.Digest.{digest_bytes};
 ghost use Rattle.base.specs.Answers.{got_from};
@@ -6,7 +7,7 @@ ghost use Rattle.lent.specs.Output.{put_at_start};
 ghost use Rattle.answer_numbers.specs.Answers.{numbers_in};
 ghost use Rattle.capi.specs.Lent.{digest_room, Answered, Hashed};
 
-use answer_numbers::{CAPACITY, Numbers, refusal};
+use answer_numbers::{Numbers, refusal};
 use base::digest::{Digest, HASH_LEN};
 use base::error::ContainerError;
 use lent::put;
@@ -21,8 +22,7 @@ pub fn put_answer(out: &mut [u64], answer: Numbers) -> usize
     if out.len() < ROOM {
         return 0;
     }
-    let count = answer.count.min(CAPACITY);
-    put(out, 0, &answer.numbers[..count])
+    put(out, 0, answer.as_slice())
 }
 
 // The 32 bytes of a digest at the start of the buffer.
@@ -30,8 +30,7 @@ fn put_digest(out: &mut [u8], digest: Digest)
     requires { digest_room ≤ length out.old }
     ensures { out.new ≡ put_at_start out.old (digest_bytes digest) }
 {
-    let bytes = digest.bytes();
-    put(out, 0, &bytes);
+    put(out, 0, &digest.bytes());
 }
 
 // A hash: the digest at the start of its buffer and a 0 at the start of the other, or the refusal's numbers there, if there is room for both.

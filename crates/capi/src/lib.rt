@@ -1,6 +1,7 @@
 // The reader for C and Rust. The library keeps nothing between calls; an answer is written into the buffer that the caller lends.
 // An answer is numbers: a refusal's number and values, or 0 and the answer's fields. The result is their count; a buffer with room for fewer
 // than 64 numbers gets none. A hash is written into a buffer of its own.
+// Kept: kinds as numbers, and 0 for no answer, since C calls these.
 #![tactic(auto)]
 
 mod buffers;
@@ -125,10 +126,7 @@ pub extern "C" fn container_hash(bytes: &[u8], digest: &mut [u8], out: &mut [u64
 pub extern "C" fn container_list(file: &[u8], out: &mut [u8]) -> usize
     ensures { Listed out.old (file_listing file.now) out.new result }
 {
-    match file_listing::put_file(out, 0, file) {
-        Some(n) => n,
-        None => 0,
-    }
+    file_listing::put_file(out, 0, file).unwrap_or(0)
 }
 
 // Over the numbers that `container_load` writes for this file `container_lookup` answers what `container_ask` answers. A law: the function reads the

@@ -15,12 +15,9 @@ fn put_header(out: &mut [u64], h: FileHeader) -> usize
     requires { room ≤ length out.old }
     ensures { Wrote out.old 0 (0 ∷ header_numbers (header_in h)) out.new result }
 {
-    let first = head(h);
-    let places = directory(h.sections);
-    let numbers = runtime(h.runtime);
-    let n = put(out, 0, &first);
-    let m = put(out, n, &places);
-    put(out, m, &numbers)
+    let n = put(out, 0, &head(h));
+    let m = put(out, n, &directory(h.sections));
+    put(out, m, &runtime(h.runtime))
 }
 
 // A 0 and the numbers that stand for the record in a lookup.
@@ -28,17 +25,11 @@ fn put_lookup_numbers(out: &mut [u64], c: Container) -> usize
     requires { room ≤ length out.old }
     ensures { Wrote out.old 0 (0 ∷ lookup_numbers (container_in c)) out.new result }
 {
-    let types = c.types;
-    let debug = c.debug;
-    let of_tasks = task_counts(c.tasks);
-    let of_types = type_counts(types);
-    let of_constants = [c.constants as u64];
-    let of_debug = debug_counts(debug);
     let n = put_header(out, c.header);
-    let m = put(out, n, &of_tasks);
-    let k = put(out, m, &of_types);
-    let j = put(out, k, &of_constants);
-    put(out, j, &of_debug)
+    let m = put(out, n, &task_counts(c.tasks));
+    let k = put(out, m, &type_counts(c.types));
+    let j = put(out, k, &[c.constants as u64]);
+    put(out, j, &debug_counts(c.debug))
 }
 
 // A 0 and the record's numbers: behind those that a lookup needs, the rows of the debug tables in force.
@@ -46,7 +37,6 @@ pub fn put_record(out: &mut [u64], c: Container) -> usize
     requires { room ≤ length out.old }
     ensures { Wrote out.old 0 (0 ∷ record_numbers (container_in c)) out.new result }
 {
-    let rows = in_force(c.in_force);
     let n = put_lookup_numbers(out, c);
-    put(out, n, &rows)
+    put(out, n, &in_force(c.in_force))
 }

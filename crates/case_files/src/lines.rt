@@ -43,12 +43,15 @@ pub fn from_line<'a>(cases: &'a [u8], wanted: &[u8]) -> &'a [u8] {
     &[]
 }
 
-// The number in a word of a line, the first being word 0, without the colon behind it; 0 if it is none.
+// The number in a word of a line, the first being word 0: of its decimal digits, at most seven; any other byte is passed over.
 pub fn number(line: &[u8], n: usize) -> usize {
-    match str::from_utf8(word(line, n)) {
-        Ok(digits) => digits.trim_end_matches(':').parse().unwrap_or(0),
-        Err(_) => 0,
+    let mut number = 0;
+    for b in word(line, n) {
+        if b.is_ascii_digit() && number < 1000000 {
+            number = 10 * number + (*b - b'0') as usize;
+        }
     }
+    number
 }
 
 // The same as an index, at most 65,535.

@@ -38,7 +38,7 @@ fn print_part(rt: &impl Print, file: &[u8], offset: u64, size: u64) {
     write(rt, p.of(file));
 }
 
-// The number at a place; zero where there is none.
+// The number at a place; zero where there is none, as answers that have fewer numbers are printed.
 fn at(numbers: &[u64], i: u8) -> u64 {
     numbers.get(i as usize).copied().unwrap_or(0)
 }

@@ -12,37 +12,40 @@ use programs::{write, write_decimal};
 use reading::Table;
 use record::Container;
 
+// The words of the kinds of lookups.
+const KINDS: [(&[u8], Kind); 26] = [
+    (b"task", Kind::Task),
+    (b"program", Kind::Program),
+    (b"fb_type", Kind::FbType),
+    (b"field", Kind::Field),
+    (b"array", Kind::Array),
+    (b"array_size", Kind::ArraySize),
+    (b"user_fb", Kind::UserFb),
+    (b"constant", Kind::Constant),
+    (b"i32", Kind::GetI32),
+    (b"u32", Kind::GetU32),
+    (b"i64", Kind::GetI64),
+    (b"u64", Kind::GetU64),
+    (b"f32", Kind::GetF32),
+    (b"f64", Kind::GetF64),
+    (b"str", Kind::GetStr),
+    (b"char_width", Kind::CharWidth),
+    (b"function", Kind::Function),
+    (b"bytecode", Kind::Bytecode),
+    (b"source_line", Kind::Line),
+    (b"line", Kind::LineEntry),
+    (b"variable", Kind::Variable),
+    (b"function_name", Kind::FunctionName),
+    (b"string_layout", Kind::StringLayout),
+    (b"source_file", Kind::SourceFile),
+    (b"enumeration", Kind::Enumeration),
+    (b"enumeration_value", Kind::EnumerationValue),
+];
+
 // The kind of a lookup by its word.
 fn kind_of(word: &[u8]) -> Option<Kind> {
-    match word {
-        b"task" => Some(Kind::Task),
-        b"program" => Some(Kind::Program),
-        b"fb_type" => Some(Kind::FbType),
-        b"field" => Some(Kind::Field),
-        b"array" => Some(Kind::Array),
-        b"array_size" => Some(Kind::ArraySize),
-        b"user_fb" => Some(Kind::UserFb),
-        b"constant" => Some(Kind::Constant),
-        b"i32" => Some(Kind::GetI32),
-        b"u32" => Some(Kind::GetU32),
-        b"i64" => Some(Kind::GetI64),
-        b"u64" => Some(Kind::GetU64),
-        b"f32" => Some(Kind::GetF32),
-        b"f64" => Some(Kind::GetF64),
-        b"str" => Some(Kind::GetStr),
-        b"char_width" => Some(Kind::CharWidth),
-        b"function" => Some(Kind::Function),
-        b"bytecode" => Some(Kind::Bytecode),
-        b"source_line" => Some(Kind::Line),
-        b"line" => Some(Kind::LineEntry),
-        b"variable" => Some(Kind::Variable),
-        b"function_name" => Some(Kind::FunctionName),
-        b"string_layout" => Some(Kind::StringLayout),
-        b"source_file" => Some(Kind::SourceFile),
-        b"enumeration" => Some(Kind::Enumeration),
-        b"enumeration_value" => Some(Kind::EnumerationValue),
-        _ => None,
-    }
+    let (_, kind) = KINDS.iter().find(|(name, _)| *name == word)?;
+    Some(*kind)
 }
 
 // The fields that are printed of an answer: a task's interval, a program's variable count, an FB type's field count, a field's extra, an array's stride, a

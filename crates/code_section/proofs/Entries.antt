@@ -6,20 +6,20 @@ use native.Mathlib.Decide.{dec_le}
 use native.Mathlib.Omega.{arith}
 use lib.ListN.{length, drop, length-drop}
 use borrow.Author.Tests.{le-leb, lt-leb}
-use Rattle.reading.specs.Fault.{short_input}
+use Rattle.reading.specs.Fault.{Fault, short_input}
 use Rattle.reading.specs.Numbers.{le_at}
 use Rattle.reading.specs.Reader.{fault, got, many}
-use Rattle.reading.specs.Answer.{Got, refused, found, ◌>>=◌, item_of}
-use Rattle.reading.specs.Places.{GivesFrom}
+use Rattle.reading.specs.Answer.{Got, refused, found, ◌>>=◌, item_of, indexed}
+use Rattle.reading.specs.Places.{stops_by, on_to, Goes, left_of, GivesFrom}
 use Rattle.reading.proofs.Parts.{length_part}
 use Rattle.reading.proofs.Reading.{both, number_at}
-use Rattle.reading.proofs.Width.{Fixed, fixed-give, fixed-bind, fixed_number, fixed-many, fixed-width}
-use Rattle.reading.proofs.Tables.{at_width, at-picked, index-out}
+use Rattle.reading.proofs.Width.{fixed-many}
 use Rattle.reading.proofs.Left.{stays-local, walk-is-table}
 use Rattle.format.specs.Faults.{no_function}
 use Rattle.format.specs.Parts.{part, Place, cut, Inside, by_place}
 use Rattle.format.specs.Code.{Function, function, Code, code_of, bytecode_of}
 use Rattle.format.specs.Lookups.{read_at, function_of, function_bytes_of}
+use Rattle.format.proofs.Widths.{function-fixed}
 use Rattle.format.proofs.Answers.{never, item-got}
 use Rattle.format.proofs.Readers.{local-function}
 use Rattle.code_section.specs.Lookups.{func_entry_size, code_reads, directory_at, next_function_at}
@@ -49,16 +49,6 @@ function-at s at h =
       number_at 2 s (at + 14) (at + func_entry_size) (omega arith) h,
     )
 
-pub function-fixed : Fixed func_entry_size function
-unfolding function
-function-fixed =
-    fixed-bind (fixed_number 2) λ i.
-    fixed-bind (fixed_number 4) λ o.
-    fixed-bind (fixed_number 4) λ n.
-    fixed-bind (fixed_number 2) λ t.
-    fixed-bind (fixed_number 2) λ l.
-    fixed-bind (fixed_number 2) λ p. fixed-give _
-
 -- the section, by whether its directory is there
 module _ (n : ℕ) (s : List ℕ) where
   code-short : length s < func_entry_size * n → code_of n s ≡ fault short_input
@@ -74,8 +64,16 @@ module _ (n : ℕ) (s : List ℕ) where
   unfolding code_of
   directory h = let k = (fixed-many n function-fixed).whole s h in record { functions = k.0; reads = k.1; code = rw k.1 }
 
-  -- answers over a section that is too short, and whether the section reads
-  pub short-refused : {A : Type 0} (go : Code → Got A) → length s < func_entry_size * n → refused short_input ≡ (item_of (code_of n s) >>= go)
+  -- whether the section reads, by whether its directory is passed over
+  pub code-stop : (f : Fault) → Goes (many n function) s 0 (stops_by f) → refused f ≡ code_reads n s
+  unfolding code_of
+  code-stop f e = rw e
+
+  pub code-passed : (k : ℕ) → Goes (many n function) s 0 (on_to k) → found tt ≡ code_reads n s
+  unfolding code_of
+  code-passed k q = rw q.1.1
+
+  short-refused : {A : Type 0} (go : Code → Got A) → length s < func_entry_size * n → refused short_input ≡ (item_of (code_of n s) >>= go)
   short-refused go h = rw (code-short h)
 
   pub code-good : {A : Type 0} (a : A) → func_entry_size * n ≤ length s → found a ≡ (item_of (code_of n s) >>= λ c. found a)
@@ -89,15 +87,9 @@ module _ (n : ℕ) (s : List ℕ) where
       go (no l) = never (short-refused (λ c. found tt) (omega arith) ∙ sym e)
 
   -- the function at a position
-  pub function-out : (k : ℕ) → func_entry_size * n ≤ length s → n ≤ k → refused no_function ≡ (item_of (code_of n s) >>= function_of k)
-  function-out k l h = let d = directory l in rw d.code (sym (index-out function k n s d.functions (drop (func_entry_size * n) s) no_function h d.reads))
-
-  pub function-found : (k : ℕ) {f : Function} → func_entry_size * n ≤ length s → k < n → function (drop (func_entry_size * k) s) ≡ got f (drop (func_entry_size * k + func_entry_size) s)
-      → found f ≡ (item_of (code_of n s) >>= function_of k)
-  function-found k {f} l h e =
-      let d = directory l in
-      let x = at_width function (fixed-width function-fixed) k n s d.functions (drop (func_entry_size * n) s) h d.reads in
-      rw d.code (sym (at-picked function x f (drop (func_entry_size * k + func_entry_size) s) e no_function))
+  pub function-is : (k : ℕ) → func_entry_size * n ≤ length s → (x : Got Function) → ((xs : List Function) (rest : List ℕ) → left_of function s (record { at = 0; count = n }) ≡ got xs rest → x ≡ indexed no_function xs k)
+      → x ≡ (item_of (code_of n s) >>= function_of k)
+  function-is k l x h = let d = directory l in rw d.code (h d.functions (drop (func_entry_size * n) s) d.reads)
 
 -- a function that was found in the section at a place of the file, and its bytecode behind the directory
 module _ (f : List ℕ) (p : Place) (n k : ℕ) (x : Function) where

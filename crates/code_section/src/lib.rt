@@ -2,18 +2,22 @@
 #![tactic(auto)]
 
 ghost use Rattle.std.specs.Prelude.{◌≡◌, ◌+◌, ◌≤◌, length, drop};
+ghost use Rattle.std.proofs.Common.{rules};
 ghost use Rattle.reading.specs.Reader.{got};
+ghost use Rattle.reading.proofs.Left.{stays-local};
+ghost use Rattle.reading.proofs.Width.{fixed-width};
 ghost use Rattle.format.specs.Code.{Function, function};
+ghost use Rattle.format.proofs.Readers.{local-function};
+ghost use Rattle.format.proofs.Widths.{function-fixed};
 ghost use Rattle.base.specs.Answers.{as_it_is, got_from, next_from};
 ghost use Rattle.base.specs.Error.{fault_of};
 ghost use Rattle.base.specs.Section.{place_in, part_in, PartWithin, bytes_or};
 ghost use Rattle.code_section.specs.Answers.{func_in};
 ghost use Rattle.code_section.specs.Lookups.{func_entry_size, code_reads, function_in, function_at, bytecode_at, directory_at, next_function_at};
 ghost use Rattle.code_section.specs.Laws.{Laws};
-ghost use Rattle.code_section.specs.Stays.{function_stays};
 
 use base::cut::Cut;
-use base::entry::{Entry, step};
+use base::entry::{Entry, OneWidth, Plain, find_by_width, pass, step};
 use base::error::ContainerError;
 use base::id_types::FunctionId;
 use base::section::{Part, Section, part_bytes, section_cut};
@@ -58,7 +62,7 @@ impl Entry for FuncEntry {
 
     ghost reader = { λ _. function };
 
-    ghost stays = { λ _. function_stays };
+    ghost stays = { λ _ s. stays-local s local-function };
 
     fn read(cut: Cut, at: usize) -> Result<(Self, usize), ContainerError> {
         if cut.left(at) < FUNC_ENTRY_SIZE {
@@ -68,14 +72,34 @@ impl Entry for FuncEntry {
     }
 }
 
+impl OneWidth for FuncEntry {
+    const WIDTH: usize = FUNC_ENTRY_SIZE;
+
+    ghost WIDTH = { func_entry_size };
+
+    ghost width = { λ _. (Prim.search rules, fixed-width function-fixed) };
+}
+
+impl Plain for FuncEntry {
+    ghost fixed = { λ _. function-fixed };
+}
+
 // The section's reader: the directory of `num_functions` entries must be there.
 pub fn read_from(cut: Cut, num_functions: u16) -> Result<(), ContainerError>
     ensures { got_from as_it_is result ≡ code_reads num_functions cut.entry.bytes.now }
 {
-    if cut.bytes.len() < FUNC_ENTRY_SIZE * num_functions as usize {
-        return Err(ContainerError::ShortInput);
-    }
+    pass::<FuncEntry>(cut, 0, num_functions as usize).ok_or(ContainerError::ShortInput)?;
     Ok(())
+}
+
+// The table that the directory is.
+fn directory(num_functions: u16) -> Table
+    ensures { result ≡ record { at = 0; count = num_functions } }
+{
+    Table {
+        at: 0,
+        count: num_functions as usize,
+    }
 }
 
 // The function at a position of the section's directory.
@@ -83,10 +107,7 @@ fn find(cut: Cut, num_functions: u16, function_id: FunctionId) -> Result<FuncEnt
     ensures { got_from func_in result ≡ function_in num_functions cut.entry.bytes.now function_id.0 }
 {
     read_from(cut, num_functions)?;
-    if num_functions <= function_id.0 {
-        return Err(ContainerError::NoFunction);
-    }
-    Ok(entry_at(cut.bytes, FUNC_ENTRY_SIZE * function_id.0 as usize))
+    find_by_width(cut, directory(num_functions), function_id.0)?.ok_or(ContainerError::NoFunction)
 }
 
 // The function at a position of the directory, never by its stored id.
@@ -145,10 +166,7 @@ pub fn functions(file: &[u8], section: Section, num_functions: u16) -> Result<Ta
     ensures { got_from as_it_is result ≡ directory_at file.now (place_in section) num_functions }
 {
     read_from(section_cut(file, section)?, num_functions)?;
-    Ok(Table {
-        at: 0,
-        count: num_functions as usize,
-    })
+    Ok(directory(num_functions))
 }
 
 // The next entry of a walk over the directory.

@@ -1,8 +1,8 @@
 -- The steps on a row are done word by word, and the steps of a round on rows give the round of the definition.
 use Rattle.std.proofs.Common.{◌≡◌, ℕ, List, [], ◌∷◌, length, sym, refl, ap, ◌∙◌}
-use Rattle.compression.specs.Word.{add32, xor, rotr, table}
+use Rattle.compression.specs.Word.{table}
 use Rattle.compression.specs.Compression.{at, quarter, put, mix, round}
-use Rattle.compression.specs.Rows.{sum3, sum, turn, square, four, half, shifted, back}
+use Rattle.compression.specs.Rows.{sum, turn, four, half, shifted, back}
 use Rattle.compression.specs.Laws.{spread}
 
 -- the columns, then the diagonals

@@ -1,5 +1,5 @@
 -- Laws that the proofs of several functions share.
-pub mod Table
 pub mod Rotations
 pub mod ByRows
 pub mod Chain
+pub mod Made

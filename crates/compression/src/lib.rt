@@ -8,6 +8,8 @@ ghost use Rattle.compression.specs.Rows as Rows;
 ghost use Rattle.compression.specs.Chain.{start_flag};
 ghost use Rattle.compression.specs.Sizes.{block_len};
 
+use std::array;
+
 // The bytes of a block, and of a chunk.
 pub const BLOCK_LEN: usize = 64;
 
@@ -53,12 +55,7 @@ fn rotr(x: u32, n: u32) -> u32
 fn sum(a: [u32; 4], b: [u32; 4]) -> [u32; 4]
     ensures { result ≡ Rows.sum a b }
 {
-    [
-        a[0].wrapping_add(b[0]),
-        a[1].wrapping_add(b[1]),
-        a[2].wrapping_add(b[2]),
-        a[3].wrapping_add(b[3]),
-    ]
+    array::from_fn(|i| a[i].wrapping_add(b[i]))
 }
 
 // a + b + x.
@@ -75,15 +72,12 @@ fn turn(a: [u32; 4], b: [u32; 4], n: u32) -> [u32; 4]
     requires { (0 < n) × (n < 32) }
     ensures { result ≡ Rows.turn n a b }
 {
-    [
-        rotr(a[0] ^ b[0], n),
-        rotr(a[1] ^ b[1], n),
-        rotr(a[2] ^ b[2], n),
-        rotr(a[3] ^ b[3], n),
-    ]
+    array::from_fn(|i| rotr(a[i] ^ b[i], n))
 }
 
 // The state with the rows a, b, c, d.
+// Kept: here and in `shifted`, `back` and `permute` the words are written out: by a table of places, `ORDER.map(|i| m[i])`, a hash takes 5 times
+// as long.
 fn square(a: [u32; 4], b: [u32; 4], c: [u32; 4], d: [u32; 4]) -> [u32; 16]
     ensures { result ≡ Rows.square a b c d }
 {
@@ -212,16 +206,7 @@ pub fn start(h: [u32; 8], t: u64, block_len: u32, flags: u32) -> [u32; 16]
 pub fn fold(v: [u32; 16]) -> [u32; 8]
     ensures { result ≡ Compression.fold v }
 {
-    [
-        v[0] ^ v[8],
-        v[1] ^ v[9],
-        v[2] ^ v[10],
-        v[3] ^ v[11],
-        v[4] ^ v[12],
-        v[5] ^ v[13],
-        v[6] ^ v[14],
-        v[7] ^ v[15],
-    ]
+    array::from_fn(|i| v[i] ^ v[i + 8])
 }
 
 // In place, so that a chain of blocks copies no chaining value.
@@ -233,6 +218,7 @@ pub fn compress_in_place(h: &mut [u32; 8], m: [u32; 16], t: u64, block_len: u32,
 }
 
 // The first eight words of the compression function: chaining value h, message m, counter t, the block's length, flags.
+// Kept: the five inputs as BLAKE3's specification lists them. A struct of them would be built for each call and read once.
 pub fn compress(h: [u32; 8], m: [u32; 16], t: u64, block_len: u32, flags: u32) -> [u32; 8]
     ensures { result ≡ Compression.compress h m t block_len flags }
 {
@@ -252,23 +238,12 @@ pub fn start_flag(blocks_compressed: u32) -> u32
     }
 }
 
-// The words of the block of `s` that starts at `at`.
-pub fn words_at(s: &[u8], at: usize) -> [u32; 16]
-    requires { at + block_len ≤ length s.now }
-    ensures { result ≡ Word.words (drop at s.now) }
+// The words of the block that `b` starts with.
+pub fn block_words(b: &[u8]) -> [u32; 16]
+    requires { block_len ≤ length b.now }
+    ensures { result ≡ Word.words b.now }
 {
-    let mut w = [0u32; 16];
-    for i in 0..16usize {
-        w[i] = reading::u32_at(s, at + 4 * i);
-    }
-    w
-}
-
-// The words of a block.
-pub fn words_of(b: [u8; BLOCK_LEN]) -> [u32; 16]
-    ensures { result ≡ Word.words b }
-{
-    words_at(&b, 0)
+    array::from_fn(|i| reading::u32_at(b, 4 * i))
 }
 
 // Two chaining values as the block of their parent.

@@ -58,7 +58,7 @@ pub fn number_bytes(n: u64) -> [u8; 8]
     n.to_le_bytes()
 }
 
-// The number of `size` bytes at the place `at`; zeros fill its eight. With no copy at the usual sizes a walk takes a third of the time.
+// The number of `size` bytes at the place `at`; zeros fill its eight. A copy for every size would make a walk take three times as long.
 fn number_at(s: &[u8], at: usize, size: usize) -> u64
     requires { (at + size ≤ length s.now) × (size ≤ 8) }
     ensures { bytes_le 8 result ≡ part at size s.now ++ replicate (8 - size) 0 }
@@ -66,6 +66,8 @@ fn number_at(s: &[u8], at: usize, size: usize) -> u64
     match size {
         8 => u64_at(s, at),
         4 => u32_at(s, at) as u64,
+        2 => u16_at(s, at) as u64,
+        1 => u8_at(s, at) as u64,
         _ => {
             let mut bytes = [0; 8];
             bytes[..size].copy_from_slice(&s[at..at + size]);

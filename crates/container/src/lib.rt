@@ -77,6 +77,7 @@ pub enum DebugState {
 }
 
 // Each section is handed on as the part of the file that starts at its offset and has its size.
+// Kept: one function for each, since their readers answer other types, one takes a count, and types may be absent.
 #[tactic(auto, using(base::proofs::FileLookups::lookup_err, base::proofs::FileLookups::lookup_ok))]
 fn tasks_at(file: &[u8], section: Section) -> Result<TaskCounts, ContainerError>
     ensures { got_from task_counts_in result ≡ task_counts_at file.now (place_in section) }

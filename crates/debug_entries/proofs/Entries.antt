@@ -8,7 +8,7 @@ use Rattle.reading.specs.Numbers.{le_at}
 use Rattle.reading.specs.Reader.{Read, fault, got, Reader, next, ◌>>=◌, give, many}
 use Rattle.reading.specs.Places.{stops, item, step_at, stops_by, on_to, way_given, way_at}
 use Rattle.reading.proofs.Reading.{bytes-at, bytes-short, number_at}
-use Rattle.reading.proofs.Width.{Fixed, fixed-bind, fixed-give, fixed_number, needs-bind, needs-none}
+use Rattle.reading.proofs.Width.{fixed_number, needs-bind, needs-none}
 use Rattle.reading.proofs.Tables.{many-length}
 use Rattle.reading.proofs.Passing.{counted-short, counted-as}
 use Rattle.reading.proofs.Left.{Stays, stays-many}
@@ -17,6 +17,7 @@ use Rattle.reading.proofs.Made.{many-made}
 use Rattle.format.specs.Parts.{Place, Keep}
 use Rattle.format.specs.Debug.{name, path, Variable, variable, function_name, string_layout, source_file, Enumeration, enumeration}
 use Rattle.format.proofs.Leaves.{stays-name, stays-path}
+use Rattle.format.proofs.Widths.{layout-fixed}
 use Rattle.base.proofs.Entries.{read_err, read_ok, read_short}
 use Rattle.debug_text.specs.Answers.{keep_in}
 use Rattle.debug_text.proofs.Texts.{name-ends}
@@ -31,13 +32,6 @@ module _ {A B : Type 0} (q : Reader B) (r : Reader A) (go : A → Reader B) (s :
   then_on a p k = rw (e, (reads_at h to k).1)
 
 -- String layouts
-
-layout-fixed : Fixed 8 string_layout
-unfolding string_layout
-layout-fixed =
-    fixed-bind (fixed_number 2) λ v.
-    fixed-bind (fixed_number 4) λ o.
-    fixed-bind (fixed_number 2) λ l. fixed-give _
 
 module _ (s : List ℕ) (at : ℕ) where
   pub layout_short : length s - at < 8 → stops short_input ≡ step_at string_layout s at

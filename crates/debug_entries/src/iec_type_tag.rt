@@ -1,5 +1,5 @@
 // The types of variables, as the debug section tags them.
-// Kept: the new form is no plainer. Document 01 refuses no number here, so an entry keeps any byte, which callers compare with these.
+// Kept: document 01 refuses no number here, so an entry keeps any byte. An enum with `Other(u8)` would have two ways to say a listed number.
 pub const BOOL: u8 = 0;
 
 pub const SINT: u8 = 1;

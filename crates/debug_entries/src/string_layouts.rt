@@ -1,12 +1,15 @@
 // The layouts of string variables: variable 2, data offset 4, length 2.
+ghost use Rattle.std.proofs.Common.{rules};
 ghost use Rattle.reading.proofs.Left.{stays-local};
+ghost use Rattle.reading.proofs.Width.{fixed-width};
 ghost use Rattle.format.specs.Debug.{StringLayout, string_layout};
 ghost use Rattle.format.proofs.Readers.{local-string_layout};
+ghost use Rattle.format.proofs.Widths.{layout-fixed};
 ghost use Rattle.debug_text.specs.Answers.{debug_fault_of};
 ghost use Rattle.debug_entries.specs.Answers.{string_layout_in};
 
 use base::cut::Cut;
-use base::entry::Entry;
+use base::entry::{Entry, OneWidth, Plain};
 use base::id_types::VarIndex;
 use debug_text::DebugFault;
 use reading::{u16_at, u32_at};
@@ -45,4 +48,16 @@ impl Entry for StringLayoutEntry {
         };
         Ok((entry, at + STRING_LAYOUT_ENTRY_SIZE))
     }
+}
+
+impl OneWidth for StringLayoutEntry {
+    const WIDTH: usize = STRING_LAYOUT_ENTRY_SIZE;
+
+    ghost WIDTH = { 8 };
+
+    ghost width = { λ _. (Prim.search rules, fixed-width layout-fixed) };
+}
+
+impl Plain for StringLayoutEntry {
+    ghost fixed = { λ _. layout-fixed };
 }

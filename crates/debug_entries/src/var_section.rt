@@ -1,5 +1,5 @@
 // The sections in which variables are declared.
-// Kept: the new form is no plainer. Document 01 refuses no number here, so an entry keeps any byte, which callers compare with these.
+// Kept: document 01 refuses no number here, so an entry keeps any byte. An enum with `Other(u8)` would have two ways to say a listed number.
 pub const VAR: u8 = 0;
 
 pub const VAR_TEMP: u8 = 1;

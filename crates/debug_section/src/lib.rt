@@ -1,5 +1,6 @@
 // The debug section of a file: where its tables in force stand, and lookups in them. A lookup reads the section again and trusts no count: 10 over
 // the file's limit, 15 where the section does not lie in the file behind the header or does not read, then the lookup's own refusal.
+// Kept: one function for each table, which users call by these names; each is one call of a generic function.
 #![tactic(auto)]
 
 ghost use Rattle.std.specs.Prelude.{◌≡◌};
@@ -97,13 +98,7 @@ pub fn lookup_source_location(
     ensures { got_from line_in result ≡ (answers_at file.now (place_in section)).source_line function_id.0 bytecode_offset }
 {
     let (cut, t) = opened(file, section)?;
-    line_map::lookup_source_location(
-        cut.bytes,
-        t.lines.at,
-        t.lines.count,
-        function_id,
-        bytecode_offset,
-    )
+    line_map::lookup_source_location(cut.bytes, t.lines, function_id, bytecode_offset)
 }
 
 // The line at a position of the line map.
@@ -112,7 +107,7 @@ pub fn line(file: &[u8], section: Section, index: u16) -> Result<LineMapEntry, C
     ensures { got_from line_in result ≡ (answers_at file.now (place_in section)).line index }
 {
     let (cut, t) = opened(file, section)?;
-    line_map::line(cut.bytes, t.lines.at, t.lines.count, index as usize)
+    line_map::line(cut.bytes, t.lines, index as usize)
 }
 
 // The variable at a position of its table: its index, function, section, type, name and type name.

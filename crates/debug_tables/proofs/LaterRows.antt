@@ -2,15 +2,16 @@
 use mathlib.Core.Path.{◌≡◌, refl, sym, ap, ◌∙◌}
 use mathlib.Core.Bool.{Bool, true, false, cond}
 use mathlib.Core.List.{List, [], ◌∷◌, ◌++◌, append-nil}
-use Prim.Native.Nat.{ℕ, zero, suc, ◌+◌, ◌*◌, ◌≤◌, ◌<◌}
+use Prim.Native.Nat.{ℕ, suc, ◌+◌, ◌≤◌, ◌<◌}
 use native.Mathlib.Nat.{add-zero}
+use native.Mathlib.Numerals.{add-one}
 use native.Mathlib.Omega.{arith}
 use lib.Dec.{eqb}
-use lib.ListN.{length, take, drop}
+use lib.ListN.{length, get_or, take}
+use lib.Seq.{length-take-le, take-suc, take_all}
 use Rattle.reading.specs.Fault.{short_input}
 use Rattle.reading.specs.Numbers.{le_at}
-use Rattle.reading.specs.Reader.{fault, got, bytes, many}
-use Rattle.reading.proofs.Reading.{bytes-at, number_at}
+use Rattle.reading.specs.Reader.{fault}
 use Rattle.format.specs.Debug.{Row, tag_of, Kind, lines, variables, functions, strings, files, enumerations, unknown, kind_of, rows_of}
 use Rattle.format.specs.InForce.{InForce, rows_with, last_of, table_row, in_force_of, none_in_force, in_force_by, in_force_in}
 use Rattle.format.proofs.InForce.{number, of-each, listed, other_tag}
@@ -19,7 +20,7 @@ use Rattle.debug_tables.specs.declared.in_force.TableRow.{TableRow}
 use Rattle.debug_tables.specs.SixTags.{of_kind, with_kind}
 use Rattle.debug_tables.specs.Answers.{table_row_in, RowsInForce, rows_in_force}
 use Rattle.debug_tables.specs.LaterRows.{later_row, put_row, FewReplaced}
-use Rattle.debug_tables.proofs.Rows.{tag_at}
+use Rattle.debug_tables.specs.Rows.{RowsRead}
 
 -- One tag: the last of the numbers decides
 
@@ -113,67 +114,44 @@ in-force-more rows row =
 
 -- The section's rows
 
--- `n` rows from the place `p` on
-abbrev rows_from : List ℕ → ℕ → ℕ → List Row
-rows_from s p zero = []
-rows_from s p (suc n) = take 8 (drop p s) ∷ rows_from s (p + 8) n
-
-abbrev pub first_rows : List ℕ → ℕ → List Row
-first_rows s n = rows_from s 2 n
-
-length-rows : (s : List ℕ) (p n : ℕ) → length (rows_from s p n) ≡ n
-length-rows s p zero = refl
-length-rows s p (suc n) = ap suc (length-rows s (p + 8) n)
-
-row-behind : (s : List ℕ) (p n : ℕ) → rows_from s p (suc n) ≡ rows_from s p n ++ (take 8 (drop (p + 8 * n) s) ∷ [])
-row-behind s p zero = let z : p ≡ p + 8 * 0 = omega arith in ap (λ (k : ℕ). take 8 (drop k s) ∷ []) z
-row-behind s p (suc n) =
-    let z : p + 8 + 8 * n ≡ p + 8 * suc n = omega arith in
-    ap (λ (rows : List Row). take 8 (drop p s) ∷ rows) (row-behind s (p + 8) n ∙ ap (λ (k : ℕ). rows_from s (p + 8) n ++ (take 8 (drop k s) ∷ [])) z)
-
-rows-many : (s : List ℕ) (n p : ℕ) → p + 8 * n ≤ length s → many n (bytes 8) (drop p s) ≡ got (rows_from s p n) (drop (p + 8 * n) s)
-rows-many s zero p h = let z : p ≡ p + 8 * 0 = omega arith in ap (λ (k : ℕ). got [] (drop k s)) z
-rows-many s (suc n) p h =
-    let z : p + 8 + 8 * n ≡ p + 8 * suc n = omega arith in
-    rw (bytes-at 8 s p (p + 8) refl (omega arith), rows-many s n (p + 8) (omega arith), z)
-
-module _ (s : List ℕ) where
+module _ (rows : List Row) where
   -- the row `i` behind the rows in front of it
-  pub next_row : (i tag : ℕ) (k : Kind) (u : InForce) → tag ≡ le_at 2 s (2 + 8 * i) → k ≡ kind_of tag → u ≡ in_force_of (first_rows s i)
-      → put_row k i u ≡ in_force_of (first_rows s (i + 1))
-  next_row i tag k u t e h =
-      let z : i + 1 ≡ suc i = omega arith in
-      let m = in-force-more (first_rows s i) (take 8 (drop (2 + 8 * i) s)) in
-      let b = ap in_force_of (ap (first_rows s) z ∙ row-behind s 2 i) in
-      let y = rw (tag_at s (2 + 8 * i), ← t, ← e, length-rows s 2 i, ← h) at m in
-      sym (b ∙ y)
+  pub next_row : (i tag : ℕ) (k : Kind) (u : InForce) → i < length rows → tag ≡ le_at 2 (get_or rows i []) 0 → k ≡ kind_of tag → u ≡ in_force_of (take i rows)
+      → put_row k i u ≡ in_force_of (take (i + 1) rows)
+  unfolding tag_of
+  next_row i tag k u l t e h =
+      let z : take (i + 1) rows ≡ take i rows ++ (get_or rows i [] ∷ []) = rw add-one (take-suc rows i [] l) in
+      let m = in-force-more (take i rows) (get_or rows i []) in
+      let y = rw (← t, ← e, length-take-le i rows (omega arith), ← h) at m in
+      sym (ap in_force_of z ∙ y)
 
-  few-so-far : (tag i : ℕ) → (table_row (rows_with tag 0 (first_rows s i))).replaced ≤ i
-  few-so-far tag i = let l = length-rows s 2 i in let f = few-replaced tag (first_rows s i) in omega arith
+  few-so-far : (tag i : ℕ) → i ≤ length rows → (table_row (rows_with tag 0 (take i rows))).replaced ≤ i
+  few-so-far tag i l = let n = length-take-le i rows l in let f = few-replaced tag (take i rows) in omega arith
 
   -- so one more fits the counts of the code
-  pub counts-fit : (i : ℕ) (u : RowsInForce) → i < 65535 → rows_in_force u ≡ in_force_of (first_rows s i) → FewReplaced u
-  counts-fit i u h e =
+  pub counts-fit : (i : ℕ) (u : RowsInForce) → i < 65535 → i ≤ length rows → rows_in_force u ≡ in_force_of (take i rows) → FewReplaced u
+  counts-fit i u h l e =
       record {
-        lines = omega (arith, ap (λ (v : InForce). v.lines.replaced) e, few-so-far 1 i);
-        variables = omega (arith, ap (λ (v : InForce). v.variables.replaced) e, few-so-far 2 i);
-        functions = omega (arith, ap (λ (v : InForce). v.functions.replaced) e, few-so-far 3 i);
-        strings = omega (arith, ap (λ (v : InForce). v.strings.replaced) e, few-so-far 4 i);
-        files = omega (arith, ap (λ (v : InForce). v.files.replaced) e, few-so-far 6 i);
-        enumerations = omega (arith, ap (λ (v : InForce). v.enumerations.replaced) e, few-so-far 9 i);
+        lines = omega (arith, ap (λ (v : InForce). v.lines.replaced) e, few-so-far 1 i l);
+        variables = omega (arith, ap (λ (v : InForce). v.variables.replaced) e, few-so-far 2 i l);
+        functions = omega (arith, ap (λ (v : InForce). v.functions.replaced) e, few-so-far 3 i l);
+        strings = omega (arith, ap (λ (v : InForce). v.strings.replaced) e, few-so-far 4 i l);
+        files = omega (arith, ap (λ (v : InForce). v.files.replaced) e, few-so-far 6 i l);
+        enumerations = omega (arith, ap (λ (v : InForce). v.enumerations.replaced) e, few-so-far 9 i l);
       }
 
-  pub all-rows : (n : ℕ) → 2 + 8 * n ≤ length s → n ≡ le_at 2 s 0 → in_force_of (first_rows s n) ≡ in_force_in s
-  unfolding in_force_in rows_of
-  all-rows n h e = sym (rw (number_at 2 s 0 2 refl (omega arith), ← e, rows-many s n 2 h))
+module _ (s : List ℕ) where
+  pub all-rows : (rows : List Row) (i : ℕ) → length rows ≤ i → RowsRead s rows → in_force_of (take i rows) ≡ in_force_in s
+  unfolding in_force_in
+  all-rows rows i h r = ap in_force_of (take_all i rows h) ∙ sym (ap in_force_by r.reads)
 
   pub short-rows : rows_of s ≡ fault short_input → none_in_force ≡ in_force_in s
   unfolding in_force_in
   short-rows h = sym (ap in_force_by h)
 
-  pub no_rows : none_in_force ≡ in_force_of (first_rows s 0)
-  unfolding rows_with
-  no_rows = refl
+pub no_rows : (rows : List Row) → none_in_force ≡ in_force_of (take 0 rows)
+unfolding rows_with
+no_rows rows = refl
 
 -- a kind's row, and the others as they were
 pub put_some : (k : Kind) (t v : TableRow) (i : ℕ) (u : RowsInForce) → Some t ≡ of_kind k u → table_row_in v ≡ later_row (table_row_in t) i → rows_in_force (with_kind k v u) ≡ put_row k i (rows_in_force u)

@@ -2,7 +2,7 @@
 use mathlib.Core.Path.{◌≡◌, refl, sym, ap, subst, ◌∙◌}
 use mathlib.Core.Bool.{true, false}
 use mathlib.Core.List.{List, map}
-use Prim.Native.Nat.{ℕ, ◌+◌, ◌*◌, ◌-◌, ◌≤◌, ◌<◌}
+use Prim.Native.Nat.{ℕ, ◌+◌, ◌-◌, ◌≤◌, ◌<◌}
 use native.Mathlib.Omega.{arith}
 use lib.ListN.{length, drop, length-drop}
 use Rattle.reading.specs.Fault.{Fault, short_input}
@@ -22,7 +22,6 @@ use Rattle.format.specs.Debug.{Kind, lines, variables, functions, strings, files
 use Rattle.format.specs.Debug.{Payload, of_lines, of_variables, of_functions, of_strings, of_files, of_enumerations, skipped}
 use Rattle.format.proofs.Keeping.{on_enumeration, Alike, stops, gives, Same, same-many, same-variable, same-function_name, same-source_file, same-enumeration}
 use Rattle.format.proofs.Readers.{local-line, local-string_layout}
-use Rattle.line_map.proofs.Entries.{lines-read, lines-short}
 use Rattle.debug_entries.specs.Answers.{entry_of, enumeration_entry}
 use Rattle.debug_entries.proofs.Places.{none_kept}
 use Rattle.debug_tables.specs.Starts.{nowhere, behind_count, entries_at, aside, payload_start, is_listed, entries_of}
@@ -55,14 +54,6 @@ way-many make r n s at = ap (way_given s) (many-made make r n (drop at s)) ∙ s
 
 pub passed_lines : (s : List ℕ) (n at : ℕ) → way_at (many n line) s at ≡ way_at (entries_of lines n) s at
 passed_lines s n at = way-made of_lines (many n line) s at
-
--- lines, which all have one width
-module _ (s : List ℕ) (n at : ℕ) where
-  pub lines_whole : 10 * n ≤ length s - at → at ≤ length s → on_to (at + 10 * n) ≡ way_at (many n line) s at
-  lines_whole h l = way-at (many n line) s at (on_to (at + 10 * n)) (omega arith, lines-read s at n h)
-
-  pub lines_few : length s - at < 10 * n → stops_by short_input ≡ way_at (many n line) s at
-  lines_few h = way-at (many n line) s at (stops_by short_input) (lines-short s at n h)
 
 pub passed_strings : (s : List ℕ) (n at : ℕ) → way_at (many n string_layout) s at ≡ way_at (entries_of strings n) s at
 passed_strings s n at = way-made of_strings (many n string_layout) s at

@@ -4,8 +4,7 @@ ghost use Rattle.format.specs.InForce.{none_in_force, in_force_in};
 ghost use Rattle.debug_tables.specs.Answers.{kind_in, table_row_in, rows_in_force};
 ghost use Rattle.debug_tables.specs.LaterRows.{later_row, put_row, FewReplaced};
 
-use crate::{DIR_ENTRY_SIZE, SixTags, TableKind};
-use debug_text::COUNT_SIZE;
+use crate::{SixTags, TableKind, rows_of};
 use reading::u16_at;
 
 // Of one tag: the row of the table in force, counted from 0 over the rows of every tag, none where no row has the tag; and how many earlier rows it
@@ -59,17 +58,13 @@ fn put_row(rows: RowsInForce, kind: TableKind, i: u16) -> RowsInForce
 pub fn rows_in_force(s: &[u8]) -> RowsInForce
     ensures { rows_in_force result ≡ in_force_in s.now }
 {
-    if s.len() < COUNT_SIZE {
-        return none_in_force();
+    let mut in_force = none_in_force();
+    let Some(rows) = rows_of(s) else {
+        return in_force;
+    };
+    for (i, row) in rows.iter().enumerate() {
+        let kind = TableKind::from(u16_at(row, 0));
+        in_force = put_row(in_force, kind, i as u16);
     }
-    let n = u16_at(s, 0);
-    if s.len() < COUNT_SIZE + DIR_ENTRY_SIZE * (n as usize) {
-        return none_in_force();
-    }
-    let mut rows = none_in_force();
-    for i in 0..n {
-        let kind = TableKind::from(u16_at(s, COUNT_SIZE + DIR_ENTRY_SIZE * (i as usize)));
-        rows = put_row(rows, kind, i);
-    }
-    rows
+    in_force
 }

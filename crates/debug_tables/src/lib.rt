@@ -3,14 +3,16 @@
 
 pub mod in_force;
 
-ghost use Rattle.std.specs.Prelude.{◌≡◌, ◌≤◌, length};
-ghost use Rattle.reading.specs.Reader.{many};
+ghost use Rattle.std.specs.Prelude.{◌≡◌, ◌≤◌, length, MatchOption};
+ghost use Rattle.reading.specs.Fault.{short_input};
+ghost use Rattle.reading.specs.Reader.{fault};
 ghost use Rattle.reading.specs.Answer.{found, item_of};
 ghost use Rattle.reading.specs.Places.{step_at, way_at};
-ghost use Rattle.format.specs.Debug.{line, kind_of};
+ghost use Rattle.format.specs.Debug.{kind_of, rows_of};
 ghost use Rattle.requests.specs.BadPlace.{bad_place};
 ghost use Rattle.base.specs.Answers.{as_it_is, got_by, step_by, way_by};
 ghost use Rattle.debug_text.specs.Answers.{debug_fault_of};
+ghost use Rattle.debug_tables.specs.Rows.{RowsRead};
 ghost use Rattle.debug_tables.specs.SixTags.{all_tags, of_kind, with_kind};
 ghost use Rattle.debug_tables.specs.Starts.{is_listed, entries_of, payload_start, debug_starts};
 ghost use Rattle.debug_tables.specs.Counts.{counts_read};
@@ -18,14 +20,14 @@ ghost use Rattle.debug_tables.specs.Answers.{kind_in, debug_counts_in, bad_place
 ghost use Rattle.debug_tables.specs.Laws.{TwoByteCounts, Laws};
 
 use base::cut::Cut;
-use base::entry::skip;
+use base::entry::{pass, skip};
 use debug_entries::enumerations::EnumerationEntry;
 use debug_entries::function_names::FunctionNameEntry;
 use debug_entries::source_files::SourceFileEntry;
 use debug_entries::string_layouts::StringLayoutEntry;
 use debug_entries::variables::VariableEntry;
 use debug_text::{COUNT_SIZE, DebugFault};
-use line_map::{LINE_MAP_ENTRY_SIZE, lines_fit};
+use line_map::LineMapEntry;
 use reading::{Table, u16_at, u32_at};
 
 // The size of a row: tag 2, reserved 2, size 4.
@@ -138,23 +140,7 @@ impl<T: Copy> SixTags<T> {
 fn is_listed(kind: TableKind) -> bool
     ensures { result ≡ is_listed (kind_in kind) }
 {
-    match kind {
-        TableKind::Unknown => false,
-        _ => true,
-    }
-}
-
-// Passes over the `n` lines from `at` on, which all have one width.
-#[tactic(auto, using(crate::proofs::Payloads::lines_whole, crate::proofs::Payloads::lines_few))]
-fn skip_lines(cut: Cut, at: usize, n: usize) -> Result<usize, DebugFault>
-    requires { at ≤ length cut.bytes.now }
-    ensures { way_by (debug_fault_of cut.entry.bytes.now) result ≡ way_at (many n line) cut.entry.bytes.now at }
-{
-    if lines_fit(cut.bytes, at, n) {
-        Ok(at + LINE_MAP_ENTRY_SIZE * n)
-    } else {
-        Err(DebugFault::Short)
-    }
+    !matches!(kind, TableKind::Unknown)
 }
 
 // Passes over the `n` entries from `at` on of a table of that kind.
@@ -164,10 +150,10 @@ fn skip_entries(cut: Cut, at: usize, kind: TableKind, n: usize) -> Result<usize,
 {
     // Kept: each arm is `skip` of another type, so a closure or a table of functions would name the same seven.
     match kind {
-        TableKind::Lines => skip_lines(cut, at, n),
+        TableKind::Lines => pass::<LineMapEntry>(cut, at, n).ok_or(DebugFault::Short),
         TableKind::Variables => skip::<VariableEntry>(cut, at, n),
         TableKind::Functions => skip::<FunctionNameEntry>(cut, at, n),
-        TableKind::Strings => skip::<StringLayoutEntry>(cut, at, n),
+        TableKind::Strings => pass::<StringLayoutEntry>(cut, at, n).ok_or(DebugFault::Short),
         TableKind::Files => skip::<SourceFileEntry>(cut, at, n),
         TableKind::Enumerations => skip::<EnumerationEntry>(cut, at, n),
         TableKind::Unknown => Ok(at),
@@ -203,23 +189,27 @@ fn read_payload(
     Ok((Table { at: 0, count: 0 }, at + size))
 }
 
+// The rows of the section `s`; none where it ends before they do.
+fn rows_of(s: &[u8]) -> Option<&[[u8; DIR_ENTRY_SIZE]]>
+    ensures { MatchOption result (rows_of s.now ≡ fault short_input) (λ rows. RowsRead s.now rows.now) }
+{
+    let (count, rest) = s.split_first_chunk::<COUNT_SIZE>()?;
+    let (rows, _) = rest.as_chunks();
+    rows.get(..u16_at(count, 0) as usize)
+}
+
 // The section's reader: why it does not read, or where its tables in force stand. A later table of a tag replaces the earlier, even by an empty one.
 pub fn tables_of(cut: Cut) -> Result<DebugTables, DebugFault>
     ensures { got_by (debug_fault_of cut.entry.bytes.now) as_it_is result ≡ item_of (debug_starts cut.entry.bytes.now) }
 {
-    if cut.left(0) < COUNT_SIZE {
+    let Some(rows) = rows_of(cut.bytes) else {
         return Err(DebugFault::Short);
-    }
-    let n = u16_at(cut.bytes, 0) as usize;
-    let mut p = COUNT_SIZE + DIR_ENTRY_SIZE * n;
-    if cut.bytes.len() < p {
-        return Err(DebugFault::Short);
-    }
+    };
     let mut tables = SixTags::all(Table { at: 0, count: 0 });
-    for i in 0..n {
-        let row = COUNT_SIZE + DIR_ENTRY_SIZE * i;
-        let kind = TableKind::from(u16_at(cut.bytes, row));
-        let size = u32_at(cut.bytes, row + ROW_SIZE_AT) as usize;
+    let mut p = COUNT_SIZE + DIR_ENTRY_SIZE * rows.len();
+    for row in rows {
+        let kind = TableKind::from(u16_at(row, 0));
+        let size = u32_at(row, ROW_SIZE_AT) as usize;
         let (table, end) = read_payload(cut, p, kind, size)?;
         tables = tables.set(kind, table);
         p = end;

@@ -1,5 +1,6 @@
 // Walks over the tables in force of the debug section, entry by entry. A walk starts at a table that `debug_section::tables` answers; a step is total over
 // any file, place and table: 10 over the file's limit, 15 where the section does not lie in the file behind the header or the entry does not read.
+// Kept: one function for each table, which users call by these names; each is one call of a generic function.
 #![tactic(auto)]
 
 ghost use Rattle.std.specs.Prelude.{◌≡◌};

@@ -1,10 +1,9 @@
 // The lister's lines for the entries of a file's tables, one function for each kind of entry. Each writes its line at the place `at` of the lent
 // buffer, if it fits, and returns the place behind it.
+// Kept: one function for each kind, since each lists other fields; they have no more in common than the call that ends them.
 #![tactic(auto)]
 
-ghost use Rattle.std.specs.Prelude.{[], ◌∷◌};
 ghost use Rattle.lent.specs.Output.{Puts};
-ghost use Rattle.text.specs.Text.{ascii, bytes_line};
 ghost use Rattle.task_table.specs.Answers.{task_in, program_in};
 ghost use Rattle.type_entries.specs.Answers.{fb_type_head_in, field_in, array_in, user_fb_in};
 ghost use Rattle.code_section.specs.Answers.{func_in};
@@ -23,11 +22,10 @@ use type_entries::{ArrayDescriptor, FbTypeDescriptor, FieldEntry, UserFbDescript
 pub fn put_task(out: &mut [u8], at: usize, t: TaskEntry) -> Option<usize>
     ensures { Puts out.old at (task_line (task_in t)) out.new result }
 {
-    let task_type = t.task_type;
     let ns = [
         t.task_id.0 as u64,
         t.priority as u64,
-        task_type.number() as u64,
+        t.task_type.number() as u64,
         t.flags as u64,
         t.interval_us,
         t.single_var_index.0 as u64,
@@ -64,8 +62,7 @@ pub fn put_fb_type(out: &mut [u8], at: usize, b: FbTypeDescriptor) -> Option<usi
 pub fn put_field(out: &mut [u8], at: usize, f: FieldEntry) -> Option<usize>
     ensures { Puts out.old at (field_line (field_in f)) out.new result }
 {
-    let field_type = f.field_type;
-    let ns = [field_type.number() as u64, f.field_extra as u64];
+    let ns = [f.field_type.number() as u64, f.field_extra as u64];
     put_line(out, at, b"field", &ns)
 }
 
@@ -73,17 +70,13 @@ pub fn put_field(out: &mut [u8], at: usize, f: FieldEntry) -> Option<usize>
 pub fn put_array(out: &mut [u8], at: usize, index: usize, a: ArrayDescriptor) -> Option<usize>
     ensures { Puts out.old at (array_line index (array_in a)) out.new result }
 {
-    let size = a.byte_size();
     let index = index as u64;
     let kind = a.element_type as u64;
     let elements = a.total_elements as u64;
     let extra = a.element_extra as u64;
     let stride = a.element_stride as u64;
-    match size {
-        Err(_) => {
-            let ns = [index, kind, elements, extra, stride];
-            put_dash_line(out, at, b"array", &ns)
-        }
+    match a.byte_size() {
+        Err(_) => put_dash_line(out, at, b"array", &[index, kind, elements, extra, stride]),
         Ok(bytes) => {
             let ns = [index, kind, elements, extra, stride, bytes as u64];
             put_line(out, at, b"array", &ns)
@@ -103,14 +96,6 @@ pub fn put_user_fb(out: &mut [u8], at: usize, u: UserFbDescriptor) -> Option<usi
     put_line(out, at, b"userfb", &ns)
 }
 
-// A constant's line: its index, its type and its kept bytes.
-fn put_kept(out: &mut [u8], at: usize, index: usize, kind: u8, bytes: &[u8]) -> Option<usize>
-    ensures { Puts out.old at (bytes_line (ascii "constant") (index ∷ kind ∷ []) bytes.now) out.new result }
-{
-    let ns = [index as u64, kind as u64];
-    put_bytes_line(out, at, b"constant", &ns, bytes)
-}
-
 // A constant, by its index, with its kept bytes; those of a string are a part of the file.
 pub fn put_constant(
     out: &mut [u8],
@@ -121,18 +106,10 @@ pub fn put_constant(
 ) -> Option<usize>
     ensures { Puts out.old at (constant_line index (with_bytes file.now c)) out.new result }
 {
-    let const_type = c.const_type;
-    let kind = const_type.number();
-    let kept = c.kept;
-    match kept {
-        Kept::Number(n) => {
-            let b = number_bytes(n);
-            put_kept(out, at, index, kind, &b)
-        }
-        Kept::Part(p) => {
-            let b = p.of(file);
-            put_kept(out, at, index, kind, b)
-        }
+    let ns = [index as u64, c.const_type.number() as u64];
+    match c.kept {
+        Kept::Number(n) => put_bytes_line(out, at, b"constant", &ns, &number_bytes(n)),
+        Kept::Part(p) => put_bytes_line(out, at, b"constant", &ns, p.of(file)),
     }
 }
 

@@ -31,8 +31,7 @@ fn put_types(out: &mut [u8], at: usize, file: &[u8], c: Container) -> Option<usi
 fn put_debug_text(out: &mut [u8], at: usize, file: &[u8], c: Container) -> Option<usize>
     ensures { PutsRestFree out.old at (debug_text file.now (container_in c)) out.new result }
 {
-    let debug = c.debug;
-    let n = put_debug(out, at, debug)?;
+    let n = put_debug(out, at, c.debug)?;
     put_lines(out, n, file, c)
 }
 
@@ -74,19 +73,17 @@ pub fn put_file_for_program(out: &mut [u8], at: usize, file: &[u8]) -> Option<us
 pub const PAGE: usize = 2097152;
 
 // Zeros.
+// Kept: a page of fixed size, since there is no heap.
 pub fn page() -> [u8; PAGE]
     ensures { result ≡ replicate listing_room 0 }
 {
     [0; PAGE]
 }
 
-// What a program lists, at the start of a page; the result is its length. There is always room.
+// What a program lists, at the start of a page; the result is its length. There is always room, so the 0 is never answered.
 pub fn put_on_page(page: &mut [u8; PAGE], file: &[u8]) -> usize
     ensures text { Wrote page.old 0 (program_listing file.now) page.new result }
     ensures room { listing_room ≡ length page.new }
 {
-    match put_file_for_program(page, 0, file) {
-        None => 0,
-        Some(n) => n,
-    }
+    put_file_for_program(page, 0, file).unwrap_or(0)
 }

@@ -2,6 +2,7 @@ pub mod Examples
 pub mod Answers
 pub mod Places
 pub mod Readers
+pub mod Widths
 pub mod Leaves
 pub mod Keeping
 pub mod PlacesHold

@@ -4,10 +4,10 @@ use mathlib.Core.List.{List, [], ◌∷◌, ◌++◌}
 use Prim.Native.Nat.{ℕ, zero, suc, ◌+◌, ◌*◌, ◌-◌, ◌/◌, ◌≤◌, ◌<◌}
 use native.Mathlib.Omega.{arith}
 use native.Mathlib.Numerals.{add-one}
-use lib.ListN.{length, take, drop, set, replicate, length-append, length-drop, take-append-drop}
-use lib.Seq.{take-append-le, drop-append-le, length-take-le, set_at, append_snoc}
+use lib.ListN.{length, get_or, take, drop, set, replicate, length-append, length-drop, take-append-drop}
+use lib.Seq.{take-append-le, drop-append-le, length-take-le, set_at, append_snoc, drop-drop}
 use borrow.Author.Tests.{le-leb, lt-leb}
-use Rattle.reading.proofs.Parts.{drop-replicate}
+use Rattle.std.specs.Simd.{first_chunks}
 use Rattle.compression.specs.Sizes.{block_len, chunk_len, last_block}
 use Rattle.compression.specs.Word.{words}
 use Rattle.compression.specs.Compression.{iv, compress}
@@ -68,9 +68,13 @@ filled_more n ps b e h =
     let one : block_len - n ≡ suc (block_len - (n + 1)) = omega arith in
     rw one (set_at ps 0 (replicate (block_len - (n + 1)) 0) b n e ∙ sym (append_snoc ps b (replicate (block_len - (n + 1)) 0)))
 
--- bytes copied to the start of an empty block
-pub filled_copy : (ps : List ℕ) (n : ℕ) {xs : List ℕ} → length ps ≡ n → xs ≡ ps → xs ++ drop (0 + length xs) (replicate block_len 0) ≡ filled n ps
-filled_copy ps n e ex = let k : 0 + length ps ≡ n = omega arith in rw (ex, k, drop-replicate {A = ℕ} n block_len 0)
+-- the words of the blocks that s is cut into
+pub block_words : (k i : ℕ) (s : List ℕ) → i < k → words (get_or (first_chunks block_len k s) i []) ≡ words (drop (0 + block_len * i) s)
+block_words zero i s p = absurd (omega arith)
+block_words (suc k) zero s p = words_take s
+block_words (suc k) (suc i) s p =
+    let d : block_len + (0 + block_len * i) ≡ 0 + block_len * suc i = omega arith in
+    block_words k i (drop block_len s) (omega arith) ∙ ap words (drop-drop (0 + block_len * i) block_len s ∙ ap (λ (n : ℕ). drop n s) d)
 
 -- ---- an input of at most one chunk
 
@@ -82,6 +86,12 @@ chained-front (suc n) c t b ds ps e =
     let one : block_len ≤ length ds = omega arith in
     ap₂ (λ (w x : List ℕ). chained n (compress c w t block_len (start_flag b)) t (b + 1) x) (words_append ds ps one) (drop-append-le block_len ds ps one)
     ∙ chained-front n (compress c (words ds) t block_len (start_flag b)) t (b + 1) (drop block_len ds) ps (omega (arith, length-drop block_len ds))
+
+-- the whole blocks of a part of s, which starts with them
+pub chained-part : (n : ℕ) (c : List ℕ) (t b : ℕ) {s : List ℕ} (ds ps : List ℕ) → s ≡ ds ++ ps → length ds ≡ block_len * n → chained (length ds / block_len) c t b ds ≡ chained n c t b s
+chained-part n c t b ds ps e l =
+    let k : length ds / block_len ≡ n = omega arith in
+    rw (k, e) (sym (chained-front n c t b ds ps l))
 
 -- its blocks before the last, and the last
 pub one_chunk : (s : List ℕ) (n : ℕ) → length s ≤ chunk_len → n ≡ (length s - 1) / block_len → chunk_output 0 s ≡ last_output (chained n iv 0 0 s) (start_flag n) 0 (drop (block_len * n) s)

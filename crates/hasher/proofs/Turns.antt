@@ -1,10 +1,11 @@
 -- What each turn of `feed` makes of the state, if the rest of the input is fed to it afterwards.
 use mathlib.Core.Path.{◌≡◌, sym, ap, ap₂, ◌∙◌}
-use mathlib.Core.List.{List, ◌++◌}
+use mathlib.Core.List.{List, ◌++◌, append_assoc}
 use Prim.Native.Nat.{ℕ, ◌+◌, ◌*◌, ◌≤◌, ◌<◌}
 use native.Mathlib.Omega.{arith}
-use lib.ListN.{length, take, drop, length-drop}
+use lib.ListN.{length, take, drop, length-append, length-take, length-drop}
 use lib.Seq.{sets-eq, length-take-le, drop-drop}
+use borrow.Rule.Slice.PartMut.{put_mid}
 use Rattle.compression.specs.Sizes.{block_len, chunk_len, last_block}
 use Rattle.compression.specs.Word.{words}
 use Rattle.compression.specs.Chain.{chained}
@@ -14,28 +15,34 @@ use Rattle.hasher.specs.declared.Hasher.{Hasher}
 use Rattle.hasher.proofs.Feeding.{holding, room-made, fed-room, fed-split, part_held, fed-chain}
 use Rattle.hasher.proofs.Four.{fed-chunks}
 
-module _ (h : Hasher) (s : List ℕ) (at : ℕ) where
+module _ (h : Hasher) (s : List ℕ) where
   -- a full block that more input follows
-  pub full-turn : {m : List ℕ} {r : Hasher} → block_len ≤ h.block_len → at < length s → m ≡ words h.block → r ≡ advanced h m → fed_freely r (drop at s) ≡ fed_freely h (drop at s)
-  full-turn p q em er =
-      ap (λ (r : Hasher). fed_freely r (drop at s)) (er ∙ ap (advanced h) em ∙ sym (room-made h p)) ∙ fed-room h (drop at s) (omega (arith, length-drop at s))
+  pub full-turn : {m : List ℕ} {r : Hasher} → block_len ≤ h.block_len → 0 < length s → m ≡ words h.block → r ≡ advanced h m → fed_freely r s ≡ fed_freely h s
+  full-turn p q em er = ap (λ (r : Hasher). fed_freely r s) (er ∙ ap (advanced h) em ∙ sym (room-made h p)) ∙ fed-room h s q
 
   -- n whole chunks
-  pub whole-turn : (n : ℕ) {r : Hasher} → h.block_len ≡ 0 → length h.block ≡ block_len → h.blocks_compressed ≡ 0 → at + chunk_len * n < length s → r ≡ chunks_done n h (drop at s)
-      → fed_freely r (drop (at + chunk_len * n) s) ≡ fed_freely h (drop at s)
-  whole-turn n z l b p er = cc (fed-chunks n h (drop at s) z l b (omega (arith, length-drop at s)), drop-drop (chunk_len * n) at s)
+  pub whole-turn : (n : ℕ) {r : Hasher} → h.block_len ≡ 0 → length h.block ≡ block_len → h.blocks_compressed ≡ 0 → chunk_len * n < length s → r ≡ chunks_done n h s
+      → fed_freely r (drop (chunk_len * n) s) ≡ fed_freely h s
+  whole-turn n z l b p er = rw er (sym (fed-chunks n h s z l b p))
 
   -- n whole blocks, none of them the chunk's last
-  pub blocks-turn : (n : ℕ) {c : List ℕ} {t : ℕ} → h.block_len ≡ 0 → length h.block ≡ block_len → 0 < n → n + h.blocks_compressed ≤ last_block → at + block_len * n < length s
-      → t ≡ h.chunk_counter → c ≡ chained n h.chaining_value t h.blocks_compressed (drop at s)
-      → fed_freely (record { chaining_value = c; block = no_block; block_len = h.block_len; blocks_compressed = h.blocks_compressed + n; cv_stack = h.cv_stack; chunk_counter = h.chunk_counter }) (drop (at + block_len * n) s) ≡ fed_freely h (drop at s)
-  blocks-turn n z l o p q et ec = cc (fed-chain n h (drop at s) z l o p (omega (arith, length-drop at s)), drop-drop (block_len * n) at s)
+  pub blocks-turn : (n : ℕ) {c : List ℕ} {t : ℕ} → h.block_len ≡ 0 → length h.block ≡ block_len → 0 < n → n + h.blocks_compressed ≤ last_block → block_len * n < length s
+      → t ≡ h.chunk_counter → c ≡ chained n h.chaining_value t h.blocks_compressed s
+      → fed_freely (record { chaining_value = c; block = no_block; block_len = h.block_len; blocks_compressed = h.blocks_compressed + n; cv_stack = h.cv_stack; chunk_counter = h.chunk_counter }) (drop (block_len * n) s) ≡ fed_freely h s
+  blocks-turn n z l o p q et ec = cc (fed-chain n h s z l o p q)
 
-  -- n bytes for which the block has room
-  pub part-turn : (n : ℕ) {xs b : List ℕ} → length h.block ≡ block_len → h.block_len + n ≤ block_len → at + n ≤ length s → xs ≡ take n (drop at s)
-      → b ≡ take h.block_len h.block ++ xs ++ drop (h.block_len + length xs) h.block → fed_freely (holding h b (h.block_len + n)) (drop (at + n) s) ≡ fed_freely h (drop at s)
-  part-turn n {xs} {b} l p q ex eb =
-      let k : length xs ≡ n = ap length ex ∙ length-take-le n (drop at s) (omega (arith, length-drop at s)) in
-      let held : holding h b (h.block_len + n) ≡ fed_freely h xs =
-      ap₂ (λ (x : List ℕ) (m : ℕ). holding h x (h.block_len + m)) (eb ∙ sym (sets-eq xs h.block h.block_len (omega arith))) (sym k) ∙ sym (part_held h xs (omega arith)) in
-      ap₂ (λ (r : Hasher) (x : List ℕ). fed_freely r x) (held ∙ ap (fed_freely h) ex) (sym (drop-drop n at s)) ∙ fed-split h n (drop at s)
+  -- n bytes for which the block has room, written behind those that it has
+  pub part-turn : (n k : ℕ) {xs ys : List ℕ} → length h.block ≡ block_len → h.block_len + n ≤ block_len → n ≤ length s → xs ≡ take n s → ys ≡ xs → k ≡ n
+      → fed_freely (holding h (put_mid h.block_len k h.block ys) (h.block_len + n)) (drop n s) ≡ fed_freely h s
+  part-turn n k {xs} {ys} l p q ex ey ek =
+      let m : length xs ≡ n = ap length ex ∙ length-take-le n s q in
+      let same : put_mid h.block_len k h.block ys ≡ take h.block_len h.block ++ xs ++ drop (h.block_len + length xs) h.block =
+      ap₂ (λ (a b : List ℕ). take h.block_len h.block ++ (a ++ b)) ey (drop-drop k h.block_len h.block ∙ ap (λ (i : ℕ). drop (h.block_len + i) h.block) (ek ∙ sym m))
+      ∙ sym (append_assoc (take h.block_len h.block) _ _) in
+      let held : holding h (put_mid h.block_len k h.block ys) (h.block_len + n) ≡ fed_freely h xs =
+      ap₂ (λ (x : List ℕ) (i : ℕ). holding h x (h.block_len + i)) (same ∙ sym (sets-eq xs h.block h.block_len (omega arith))) (sym m) ∙ sym (part_held h xs (omega arith)) in
+      ap (λ (r : Hasher). fed_freely r (drop n s)) (held ∙ ap (fed_freely h) ex) ∙ fed-split h n s
+
+  -- the block keeps its length
+  pub part-length : (n k : ℕ) (ys : List ℕ) → length h.block ≡ block_len → h.block_len + n ≤ block_len → length ys ≡ n → k ≡ n → length (put_mid h.block_len k h.block ys) ≡ block_len
+  part-length n k ys l p e ek = simp (length-append, length-take, length-drop) (omega arith)

@@ -1,23 +1,21 @@
 // BLAKE3's hash state: fed in any division into parts, and finished. No state is refused; `specs/State.antt` says what becomes of each.
 #![tactic(auto)]
 
-ghost use Rattle.std.specs.Prelude.{◌≡◌, List, ℕ, ◌+◌, ◌*◌, ◌-◌, ◌/◌, ◌<◌, ◌≤◌, min, length, drop};
+ghost use Rattle.std.specs.Prelude.{◌≡◌, List, ℕ, ◌+◌, ◌*◌, ◌/◌, ◌≤◌, min, map, length};
 ghost use Rattle.compression.specs.Sizes.{block_len, chunk_len, last_block};
 ghost use Rattle.compression.specs.Word.{words};
-ghost use Rattle.compression.specs.Compression.{root_flag};
 ghost use Rattle.compression.specs.Chain.{chained};
 ghost use Rattle.wide.specs.Lanes.{chunk_value};
 ghost use Rattle.hasher.specs.Hash.{chaining_value, root_words, parent_output, hash_words};
-ghost use Rattle.hasher.specs.Stack.{values_of, under, pushed};
-ghost use Rattle.hasher.specs.State.{filled, start, output_with, chunk_done, advanced, fed_freely, capacity, fill, fed, finished};
+ghost use Rattle.hasher.specs.Stack.{words_of, values_of, joined, under, pushed};
+ghost use Rattle.hasher.specs.State.{start, output_with, chunk_done, advanced, fed_freely, capacity, fill, fed, finished};
 ghost use Rattle.hasher.specs.Whole.{chunks_done, at_once};
 ghost use Rattle.hasher.specs.Laws.{Laws};
 
 use compression::{
-    BLOCK_LEN, CHUNK_END, CHUNK_LEN, LAST_BLOCK, LAST_BLOCK_START, PARENT, ROOT, compress,
-    compress_in_place, iv, join, start_flag, words_at, words_of,
+    BLOCK_LEN, CHUNK_END, CHUNK_LEN, LAST_BLOCK, LAST_BLOCK_START, PARENT, ROOT, block_words,
+    compress, compress_in_place, iv, join, start_flag,
 };
-use lent::copy;
 use wide::{ChunkCounter, chunks4, counter_after};
 
 const FOUR_CHUNKS: usize = 4 * CHUNK_LEN;
@@ -32,13 +30,15 @@ const CHUNKS: ChunkCounter = 1 << LEVELS;
 pub const CAPACITY: usize = CHUNK_LEN << LEVELS;
 
 // A node before its last compression: all inputs but the flag ROOT.
+// Kept: `block_len` is an input of the compression. A slice in place of it and `block_words` would be wrong: all sixteen words count.
 #[derive(Clone, Copy)]
 pub struct Output {
     pub input_chaining_value: [u32; 8],
     pub block_words: [u32; 16],
     pub counter: u64,
     pub block_len: u32,
-    pub flags: u32,
+    // A byte, as in BLAKE3's own crate, so that ROOT can be added to any.
+    pub flags: u8,
 }
 
 // The chaining value of a finished subtree.
@@ -48,6 +48,8 @@ pub struct ChainingValue {
 }
 
 // The values that wait to be joined, oldest first: the first `len` of `values`.
+// Kept: places with a length beside them, as in `Hasher` the block: document 01 names this form, and there is no heap. Callers may make up a
+// state, so `len` is cut to the places where it is read, and no ghost field bounds it.
 #[derive(Clone, Copy)]
 pub struct CvStack {
     pub values: [ChainingValue; LEVELS],
@@ -72,23 +74,24 @@ impl Output {
     fn chaining_value(self) -> [u32; 8]
         ensures { result ≡ chaining_value self }
     {
-        let cv = self.input_chaining_value;
-        let block_words = self.block_words;
-        compress(cv, block_words, self.counter, self.block_len, self.flags)
+        compress(
+            self.input_chaining_value,
+            self.block_words,
+            self.counter,
+            self.block_len,
+            u32::from(self.flags),
+        )
     }
 
     fn root_words(self) -> [u32; 8]
-        requires { self.flags < root_flag }
         ensures { result ≡ root_words self }
     {
-        let cv = self.input_chaining_value;
-        let block_words = self.block_words;
         compress(
-            cv,
-            block_words,
+            self.input_chaining_value,
+            self.block_words,
             self.counter,
             self.block_len,
-            self.flags + ROOT,
+            u32::from(self.flags) + ROOT,
         )
     }
 }
@@ -97,96 +100,87 @@ impl Output {
 fn parent_output(left: [u32; 8], right: [u32; 8]) -> Output
     ensures { result ≡ parent_output left right }
 {
-    let block_words = join(left, right);
-    let cv = iv();
     Output {
-        input_chaining_value: cv,
-        block_words: block_words,
+        input_chaining_value: iv(),
+        block_words: join(left, right),
         counter: 0,
         block_len: BLOCK_LEN as u32,
-        flags: PARENT,
+        flags: PARENT as u8,
     }
 }
 
-fn least(a: usize, b: usize) -> usize
-    ensures { result ≡ min a b }
+// The chaining value of the parent of a subtree and the one that waits on its left.
+fn joined_with(right: [u32; 8], left: &ChainingValue) -> [u32; 8]
+    ensures { result ≡ chaining_value (parent_output left.now.words right) }
 {
-    if a < b { a } else { b }
+    parent_output(left.words, right).chaining_value()
+}
+
+// `cv` joined with these values, the newest of them first.
+fn joined(values: &[ChainingValue], cv: [u32; 8]) -> [u32; 8]
+    ensures { result ≡ joined cv (map words_of values.now) }
+{
+    values.iter().rev().fold(cv, joined_with)
+}
+
+// The root above these values and the tree's last chunk.
+fn under(values: &[ChainingValue], last: Output) -> Output
+    ensures { result ≡ under last (map words_of values.now) }
+{
+    values.iter().rev().fold(
+        last,
+        |right, left| parent_output(left.words, right.chaining_value()),
+    )
 }
 
 impl CvStack {
-    // Joins `c` with the newest `joins` values and pushes the result.
-    fn push(self, joins: u32, c: [u32; 8]) -> CvStack
-        ensures { result ≡ pushed self joins c }
+    // Joins `cv` with the newest `joins` values and pushes the result.
+    fn push(self, joins: u32, cv: [u32; 8]) -> CvStack
+        ensures { result ≡ pushed self joins cv }
     {
         let mut values = self.values;
-        let mut n = least(self.len, LEVELS);
-        let mut left = joins;
-        let mut v = c;
-        while 0 < left && 0 < n {
-            n -= 1;
-            left -= 1;
-            let older = values[n];
-            let l = older.words;
-            let output = parent_output(l, v);
-            let both = output.chaining_value();
-            v = both;
-        }
-        if n < LEVELS {
-            values[n] = ChainingValue { words: v };
-            return CvStack {
-                values: values,
-                len: n + 1,
-            };
+        let len = self.len.min(LEVELS);
+        let place = len.saturating_sub(joins as usize);
+        let words = joined(&values[place..len], cv);
+        if place < LEVELS {
+            values[place] = ChainingValue { words };
         }
         CvStack {
-            values: values,
-            len: n,
+            values,
+            len: (place + 1).min(LEVELS),
         }
     }
 
     // The root of the tree whose last chunk is `last`.
     fn root(self, last: Output) -> Output
-        requires { last.flags < root_flag }
-        ensures { (result ≡ under last (values_of self)) × (result.flags < root_flag) }
+        ensures { result ≡ under last (values_of self) }
     {
-        let values = self.values;
-        let mut n = least(self.len, LEVELS);
-        let mut output = last;
-        while 0 < n {
-            n -= 1;
-            let older = values[n];
-            let l = older.words;
-            let r = output.chaining_value();
-            let above = parent_output(l, r);
-            output = above;
-        }
-        output
+        under(&self.values[..self.len.min(LEVELS)], last)
     }
 }
 
-// The chaining value after `n` whole blocks of `s` from `at` on, the first of them block number `blocks` of chunk `t`.
-fn chain(cv: [u32; 8], s: &[u8], at: usize, n: usize, t: u64, blocks: u32) -> [u32; 8]
-    requires { (at + block_len * n ≤ length s.now) × (n + blocks ≤ last_block) }
-    ensures { result ≡ chained n cv t blocks (drop at s.now) }
+// The chaining value after all whole blocks of `s`, the first of them block number `first` of chunk `t`.
+fn chain(cv: [u32; 8], s: &[u8], t: u64, first: u32) -> [u32; 8]
+    requires { length s.now / block_len + first ≤ last_block }
+    ensures { result ≡ chained (length s.now / block_len) cv t first s.now }
 {
     let mut c = cv;
-    for i in 0..n {
-        let flag = start_flag(blocks + (i as u32));
-        let m = words_at(s, at + BLOCK_LEN * i);
-        compress_in_place(&mut c, m, t, BLOCK_LEN as u32, flag);
+    let (blocks, _) = s.as_chunks::<BLOCK_LEN>();
+    for (i, block) in blocks.iter().enumerate() {
+        let flag = start_flag(first + i as u32);
+        compress_in_place(&mut c, block_words(block), t, BLOCK_LEN as u32, flag);
     }
     c
 }
 
-// The chaining value of the whole chunk number `t`, which starts at `at` of `s`.
-fn chunk_value(cv: [u32; 8], s: &[u8], at: usize, t: u64) -> [u32; 8]
-    requires { at + chunk_len ≤ length s.now }
-    ensures { result ≡ chunk_value cv t (drop at s.now) }
+// The chaining value of the whole chunk number `t`, which `s` starts with.
+fn chunk_value(cv: [u32; 8], s: &[u8], t: u64) -> [u32; 8]
+    requires { chunk_len ≤ length s.now }
+    ensures { result ≡ chunk_value cv t s.now }
 {
-    let c = chain(cv, s, at, LAST_BLOCK, t, 0);
-    let m = words_at(s, at + LAST_BLOCK_START);
-    compress(c, m, t, BLOCK_LEN as u32, CHUNK_END)
+    let (blocks, last) = s.split_at(LAST_BLOCK_START);
+    let c = chain(cv, blocks, t, 0);
+    compress(c, block_words(last), t, BLOCK_LEN as u32, CHUNK_END)
 }
 
 // How many whole chunks are taken in at once if `left` bytes are left: four if more input follows them, or one.
@@ -202,11 +196,11 @@ impl Hasher {
     {
         Hasher {
             chaining_value: iv(),
-            block: [0u8; BLOCK_LEN],
+            block: [0; BLOCK_LEN],
             block_len: 0,
             blocks_compressed: 0,
             cv_stack: CvStack {
-                values: [ChainingValue { words: [0u32; 8] }; LEVELS],
+                values: [ChainingValue { words: [0; 8] }; LEVELS],
                 len: 0,
             },
             chunk_counter: 0,
@@ -222,15 +216,15 @@ impl Hasher {
 
     // The output of the current chunk, with this last block, of `block_len` bytes.
     fn output(self, block_words: [u32; 16], block_len: u32) -> Output
-        ensures { (result ≡ output_with self block_words block_len) × (result.flags < root_flag) }
+        ensures { result ≡ output_with self block_words block_len }
     {
-        let cv = self.chaining_value;
+        let input_chaining_value = self.chaining_value;
         Output {
-            input_chaining_value: cv,
-            block_words: block_words,
+            input_chaining_value,
+            block_words,
             counter: self.counter(),
-            block_len: block_len,
-            flags: start_flag(self.blocks_compressed) + CHUNK_END,
+            block_len,
+            flags: (start_flag(self.blocks_compressed) + CHUNK_END) as u8,
         }
     }
 
@@ -238,17 +232,15 @@ impl Hasher {
     fn chunk_done(self, cv: [u32; 8]) -> Hasher
         ensures { result ≡ chunk_done self cv }
     {
-        let stack = self.cv_stack;
         let before = self.chunk_counter;
         let chunks = counter_after(before, 1);
-        let joins = u64::trailing_zeros(chunks);
-        let pushed = stack.push(joins, cv);
+        let joins = chunks.trailing_zeros();
         Hasher {
             chaining_value: iv(),
-            block: [0u8; BLOCK_LEN],
+            block: [0; BLOCK_LEN],
             block_len: 0,
             blocks_compressed: 0,
-            cv_stack: pushed,
+            cv_stack: self.cv_stack.push(joins, cv),
             chunk_counter: chunks,
         }
     }
@@ -258,58 +250,51 @@ impl Hasher {
         ensures { result ≡ advanced self block_words }
     {
         if self.blocks_compressed < LAST_BLOCK as u32 {
-            let stack = self.cv_stack;
             let cv = self.chaining_value;
             let flag = start_flag(self.blocks_compressed);
-            let next = compress(cv, block_words, self.counter(), BLOCK_LEN as u32, flag);
             return Hasher {
-                chaining_value: next,
-                block: [0u8; BLOCK_LEN],
+                chaining_value: compress(cv, block_words, self.counter(), BLOCK_LEN as u32, flag),
+                block: [0; BLOCK_LEN],
                 block_len: 0,
                 blocks_compressed: self.blocks_compressed + 1,
-                cv_stack: stack,
-                chunk_counter: self.chunk_counter,
+                ..self
             };
         }
         let last = self.output(block_words, BLOCK_LEN as u32);
         self.chunk_done(last.chaining_value())
     }
 
-    // Takes in four whole chunks of `s` from `at` on, hashed side by side.
-    fn take_chunks(self, s: &[u8], at: usize) -> Hasher
-        requires { at + 4 * chunk_len ≤ length s.now }
-        ensures { result ≡ chunks_done 4 self (drop at s.now) }
+    // Takes in the four whole chunks that `s` starts with, hashed side by side.
+    fn take_chunks(self, s: &[u8]) -> Hasher
+        requires { 4 * chunk_len ≤ length s.now }
+        ensures { result ≡ chunks_done 4 self s.now }
     {
-        let cv = self.chaining_value;
-        let values = chunks4(cv, s, at, self.chunk_counter);
         let mut h = self;
-        for i in 0..4usize {
-            let value = values[i];
-            let next = h.chunk_done(value);
+        for cv in chunks4(self.chaining_value, s, self.chunk_counter) {
+            let next = h.chunk_done(cv);
             h = next;
         }
         h
     }
 
-    // Takes in a whole chunk of `s` from `at` on.
-    fn take_chunk(self, s: &[u8], at: usize) -> Hasher
-        requires { at + chunk_len ≤ length s.now }
-        ensures { result ≡ chunks_done 1 self (drop at s.now) }
+    // Takes in the whole chunk that `s` starts with.
+    // Kept: beside `take_chunks`. Four chunks are hashed in lanes, which is faster, and one function for both would only ask which.
+    fn take_chunk(self, s: &[u8]) -> Hasher
+        requires { chunk_len ≤ length s.now }
+        ensures { result ≡ chunks_done 1 self s.now }
     {
-        let cv = self.chaining_value;
-        let value = chunk_value(cv, s, at, self.counter());
-        self.chunk_done(value)
+        self.chunk_done(chunk_value(self.chaining_value, s, self.counter()))
     }
 
-    // Takes in as many whole chunks of `s` from `at` on as `at_once` says.
-    fn take_whole(self, s: &[u8], at: usize) -> Hasher
-        requires { at + chunk_len ≤ length s.now }
-        ensures { result ≡ chunks_done (at_once (length s.now - at)) self (drop at s.now) }
+    // Takes in as many whole chunks of `s` as `at_once` says.
+    fn take_whole(self, s: &[u8]) -> Hasher
+        requires { chunk_len ≤ length s.now }
+        ensures { result ≡ chunks_done (at_once (length s.now)) self s.now }
     {
-        if FOUR_CHUNKS < s.len() - at {
-            return self.take_chunks(s, at);
+        if FOUR_CHUNKS < s.len() {
+            return self.take_chunks(s);
         }
-        self.take_chunk(s, at)
+        self.take_chunk(s)
     }
 
     // The state fed with all bytes of `s`, however many it has taken in. Each turn takes in the full block, whole chunks, whole blocks, or as
@@ -318,34 +303,33 @@ impl Hasher {
         ensures { result ≡ fed_freely self s.now }
     {
         let mut h = self;
-        let mut at = 0;
-        while at < s.len() {
-            let left = s.len() - at;
+        let mut rest = s;
+        while !rest.is_empty() {
             let len = h.block_len as usize;
-            let blocks = h.blocks_compressed;
-            let mut bytes = h.block;
+            let blocks = h.blocks_compressed as usize;
+            let mut block = h.block;
             if BLOCK_LEN <= len {
-                let next = h.advance(words_of(bytes));
+                let next = h.advance(block_words(&block));
                 h = next;
-            } else if len == 0 && blocks == 0 && CHUNK_LEN < left {
-                let next = h.take_whole(s, at);
+            } else if len == 0 && blocks == 0 && CHUNK_LEN < rest.len() {
+                let next = h.take_whole(rest);
                 h = next;
-                at += CHUNK_LEN * at_once(left);
-            } else if len == 0 && blocks < LAST_BLOCK as u32 && BLOCK_LEN < left {
-                let n = least(LAST_BLOCK - (blocks as usize), (left - 1) / BLOCK_LEN);
-                let cv = h.chaining_value;
-                let t = h.counter();
-                let next = chain(cv, s, at, n, t, blocks);
+                rest = &rest[CHUNK_LEN * at_once(rest.len())..];
+            } else if len == 0 && blocks < LAST_BLOCK && BLOCK_LEN < rest.len() {
+                let n = (LAST_BLOCK - blocks).min((rest.len() - 1) / BLOCK_LEN);
+                let (whole, more) = rest.split_at(BLOCK_LEN * n);
+                let next = chain(h.chaining_value, whole, h.counter(), h.blocks_compressed);
                 h.chaining_value = next;
-                h.block = [0u8; BLOCK_LEN];
-                h.blocks_compressed = blocks + (n as u32);
-                at += BLOCK_LEN * n;
+                h.block = [0; BLOCK_LEN];
+                h.blocks_compressed += n as u32;
+                rest = more;
             } else {
-                let n = least(BLOCK_LEN - len, left);
-                copy(&mut bytes, len, &s[at..at + n]);
-                h.block = bytes;
+                let n = (BLOCK_LEN - len).min(rest.len());
+                let (part, more) = rest.split_at(n);
+                block[len..len + n].copy_from_slice(part);
+                h.block = block;
                 h.block_len = (len + n) as u32;
-                at += n;
+                rest = more;
             }
         }
         h
@@ -359,8 +343,8 @@ impl Hasher {
             return CAPACITY;
         }
         let chunks = self.chunk_counter as usize;
-        let blocks = least(self.blocks_compressed as usize, LAST_BLOCK);
-        let len = least(self.block_len as usize, BLOCK_LEN);
+        let blocks = LAST_BLOCK.min(self.blocks_compressed as usize);
+        let len = BLOCK_LEN.min(self.block_len as usize);
         CHUNK_LEN * chunks + BLOCK_LEN * blocks + len
     }
 
@@ -368,7 +352,7 @@ impl Hasher {
     pub fn update(self, s: &[u8]) -> Hasher
         ensures { result ≡ fed self s.now }
     {
-        let n = least(CAPACITY - self.taken(), s.len());
+        let n = s.len().min(CAPACITY - self.taken());
         self.feed(&s[..n])
     }
 
@@ -377,40 +361,22 @@ impl Hasher {
     pub fn finish(self) -> [u32; 8]
         ensures { result ≡ finished self }
     {
-        let bytes = self.block;
-        let last = self.output(words_of(bytes), self.block_len);
-        let stack = self.cv_stack;
-        let top = stack.root(last);
-        top.root_words()
+        let last = self.output(block_words(&self.block), self.block_len);
+        self.cv_stack.root(last).root_words()
     }
 }
 
-// How many blocks a chunk of `len` bytes has before its last.
-fn before_last(len: usize) -> usize
-    ensures { result ≡ (len - 1) / block_len }
+// The words of a chunk's last block, which may be short.
+fn last_words(s: &[u8]) -> [u32; 16]
+    requires { length s.now ≤ block_len }
+    ensures { result ≡ words s.now }
 {
-    if len == 0 { 0 } else { (len - 1) / BLOCK_LEN }
-}
-
-// The bytes of `s` from `at` on, in a block filled up with zeros.
-fn rest_of(s: &[u8], at: usize) -> [u8; BLOCK_LEN]
-    requires { (at ≤ length s.now) × (length s.now ≤ at + block_len) }
-    ensures { result ≡ filled (length s.now - at) (drop at s.now) }
-{
-    let mut block = [0u8; BLOCK_LEN];
-    copy(&mut block, 0, &s[at..]);
-    block
-}
-
-// The words of the chunk's last block, which starts at `at`.
-fn last_words(s: &[u8], at: usize) -> [u32; 16]
-    requires { (at ≤ length s.now) × (length s.now ≤ at + block_len) }
-    ensures { result ≡ words (drop at s.now) }
-{
-    if s.len() - at == BLOCK_LEN {
-        return words_at(s, at);
+    if s.len() == BLOCK_LEN {
+        return block_words(s);
     }
-    words_of(rest_of(s, at))
+    let mut block = [0; BLOCK_LEN];
+    block[..s.len()].copy_from_slice(s);
+    block_words(&block)
 }
 
 // The digest of at most one chunk, as eight words. It needs no state.
@@ -418,18 +384,16 @@ pub fn one_chunk(s: &[u8]) -> [u32; 8]
     requires { length s.now ≤ chunk_len }
     ensures { result ≡ hash_words s.now }
 {
-    let n = before_last(s.len());
-    let at = BLOCK_LEN * n;
-    let cv = chain(iv(), s, 0, n, 0, 0);
-    let block_words = last_words(s, at);
-    let last = Output {
-        input_chaining_value: cv,
-        block_words: block_words,
+    let n = s.len().saturating_sub(1) / BLOCK_LEN;
+    let (blocks, last) = s.split_at(BLOCK_LEN * n);
+    let output = Output {
+        input_chaining_value: chain(iv(), blocks, 0, 0),
+        block_words: last_words(last),
         counter: 0,
-        block_len: (s.len() - at) as u32,
-        flags: start_flag(n as u32) + CHUNK_END,
+        block_len: last.len() as u32,
+        flags: (start_flag(n as u32) + CHUNK_END) as u8,
     };
-    last.root_words()
+    output.root_words()
 }
 
 // The claims of `specs/Laws.antt` hold. Empty body: the contract makes the checker prove them.

@@ -95,6 +95,7 @@ pub struct RuntimeParameters {
 }
 
 // The reserved bytes.
+// Kept: a type beside `Digest`, which has methods; a const parameter for both would be no plainer.
 #[derive(Clone, Copy)]
 pub struct Reserved(pub [u8; 38]);
 
@@ -109,7 +110,7 @@ fn section_at(file: &[u8], at: usize) -> Section
     }
 }
 
-// Kept: seven pairs at document 01's places; a table of places would be no plainer.
+// Kept: seven pairs at document 01's places. A table of the places would repeat them apart from the fields' names.
 #[tactic(auto, unfolding(format::specs::Header::directory_of))]
 fn directory_at(file: &[u8]) -> SectionDirectory
     requires { header_size ≤ length file.now }
@@ -126,7 +127,7 @@ fn directory_at(file: &[u8]) -> SectionDirectory
     }
 }
 
-// Kept: numbers of two widths at document 01's places; a table of places would be no plainer.
+// Kept: numbers of two widths at document 01's places. A table of the places would repeat them apart from the fields' names.
 #[tactic(auto, unfolding(format::specs::Header::runtime_of))]
 fn runtime_at(file: &[u8]) -> RuntimeParameters
     requires { header_size ≤ length file.now }

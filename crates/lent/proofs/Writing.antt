@@ -4,8 +4,8 @@ use mathlib.Core.Path.{◌≡◌, refl, sym, ◌∙◌, ap, subst}
 use mathlib.Core.List.{List, [], ◌∷◌, ◌++◌, append-nil, append_assoc}
 use native.Mathlib.Omega.{arith}
 use native.Mathlib.Numerals.{add-one}
-use lib.ListN.{length, get_or, take, drop, set, length-append, length-drop, take-append-drop}
-use lib.Seq.{take_all, take_at, take-take, take-suc, take-suc-set, length-take-le, drop_at, drop-set-lt, drop-drop}
+use lib.ListN.{length, get_or, take, drop, length-append, length-drop, take-append-drop}
+use lib.Seq.{take_all, take_at, take-take, take-suc, length-take-le, drop_at, drop-drop}
 use Rattle.std.specs.Int.{bytes_low_first}
 use Rattle.reading.specs.Numbers.{bytes_le}
 use Rattle.reading.proofs.Le.{bytes_le_is, bytes-length}

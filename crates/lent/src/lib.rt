@@ -33,14 +33,6 @@ pub fn put<T: Copy>(out: &mut [T], at: usize, items: &[T]) -> usize
     at + items.len()
 }
 
-pub fn put_byte(out: &mut [u8], at: usize, byte: u8) -> usize
-    requires { at < length out.old }
-    ensures { Wrote out.old at (byte ∷ []) out.new result }
-{
-    out[at] = byte;
-    at + 1
-}
-
 // Numbers as bytes, low byte first.
 // Kept: one function for each width. A trait of the three widths with its impls would be longer than these three bodies.
 

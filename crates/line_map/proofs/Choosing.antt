@@ -1,63 +1,46 @@
 -- The choice of the entry: over the map's bytes what is left behind an entry decides, and on a sorted map the walk that ends at the first
 -- entry above the query chooses as the definition does.
-use mathlib.Core.Path.{◌≡◌, refl, sym, ◌∙◌}
+use mathlib.Core.Path.{◌≡◌, refl, sym, ap, ◌∙◌}
 use mathlib.Core.Bool.{Bool, true, false, ◌&&◌, ◌||◌, cond}
 use mathlib.Core.List.{List, [], ◌∷◌}
 use mathlib.Core.Logic.{◌⊎◌, inl, inr}
 use mathlib.Core.Option.{Option, none}
-use Prim.Native.Nat.{ℕ, ◌+◌, ◌*◌, ◌-◌, ◌≤◌, ◌<◌}
-use native.Mathlib.Nat.{sub-zero, add-zero}
+use Prim.Native.Nat.{ℕ, ◌+◌, ◌≤◌, ◌<◌}
+use native.Mathlib.Numerals.{add-one}
 use native.Mathlib.Decide.{dec_le, dec_lt}
 use native.Mathlib.Omega.{arith}
 use lib.Dec.{eqb, leb, ltb}
-use lib.ListN.{length, drop}
+use lib.ListN.{length, get_or, drop, drop_of_length-le}
+use lib.Seq.{drop-cons}
 use borrow.Author.Tests.{eq-eqb, ne_eqb, le-leb, lt-leb, lt-ltb, le-ltb, ltb-true, eqb-true, leb-true}
-use Rattle.reading.specs.Reader.{got}
-use Rattle.reading.specs.Answer.{Got, refused, found, present}
-use Rattle.format.specs.Debug.{Line, line}
+use Rattle.std.proofs.lemmas.Bool.{and_parts}
+use Rattle.reading.specs.Answer.{refused, found, present}
+use Rattle.format.specs.Debug.{Line}
 use Rattle.format.specs.Faults.{no_line, unsorted_map}
 use Rattle.format.specs.Lines.{in_order, sorted, candidate, better, best_of, line_for}
-use Rattle.format.proofs.Answers.{same-found}
 use Rattle.line_map.specs.Choice.{is_above, choice_of}
-use Rattle.line_map.specs.Lookups.{line_map_entry_size, in_lines, sorted_in, choice_in, source_line_in}
-use Rattle.line_map.proofs.Entries.{lines-read, in-none, in-any, in-more}
+use Rattle.line_map.specs.Lookups.{source_line_in}
+use Rattle.line_map.specs.Map.{line_of, lines_of, lines_at}
 
--- Over the map's bytes
+-- The walk over the map's rows
 
--- the choice among the `n` entries from the place `p` on, with the best before them
-abbrev pub choice_behind : ℕ → ℕ → Option Line → List ℕ → ℕ → ℕ → Got (Option Line)
-choice_behind f q best s p n = in_lines s p n (λ es. found (choice_of f q best es))
+module _ (rows : List (List ℕ)) (f q i : ℕ) (best : Option Line) (inv : choice_of f q best (lines_of (drop i rows)) ≡ choice_of f q none (lines_of rows)) where
+  pub choice-end : length rows ≤ i → best ≡ choice_of f q none (lines_of rows)
+  choice-end h = rw (drop_of_length-le rows h) at inv
 
-module _ (s : List ℕ) (at n f q : ℕ) where
-  pub choice-start : choice_behind f q none s (at + line_map_entry_size * 0) (n - 0) ≡ choice_in s at n f q
-  choice-start = rw (sub-zero n, add-zero at)
+  -- it stands before the row of index i
+  module _ (e : Line) (h : i < length rows) (is : e ≡ line_of (get_or rows i [])) where
+    here : choice_of f q best (e ∷ lines_of (drop (i + 1) rows)) ≡ choice_of f q none (lines_of rows)
+    here = rw (is, add-one) (sym (ap (λ (x : List (List ℕ)). choice_of f q best (lines_of x)) (drop-cons rows i [] h)) ∙ inv)
 
-  -- the loop stands before the entry of index i
-  module _ (i : ℕ) (best : Option Line) (inv : choice_behind f q best s (at + line_map_entry_size * i) (n - i) ≡ choice_in s at n f q) where
-    pub choice-end : i ≡ n → found best ≡ choice_in s at n f q
-    choice-end h = sym (in-none s (at + line_map_entry_size * i) (n - i) (λ es. found (choice_of f q best es)) (omega arith)) ∙ inv
+    pub choice-above : is_above f q e ≡ true → best ≡ choice_of f q none (lines_of rows)
+    choice-above o = rw o at here
 
-    module _ (e : Line) (h : i < n) (r : line (drop (at + line_map_entry_size * i) s) ≡ got e (drop (at + line_map_entry_size * i + line_map_entry_size) s)) where
-      step : (rest : List Line → Got (Option Line)) → ((es : List Line) → found (choice_of f q best (e ∷ es)) ≡ rest es)
-          → in_lines s (at + line_map_entry_size * (i + 1)) (n - (i + 1)) rest ≡ choice_in s at n f q
-      step rest same =
-          sym (in-more s (at + line_map_entry_size * i) (n - i) (λ es. found (choice_of f q best es)) (n - (i + 1)) (at + line_map_entry_size * (i + 1)) e rest (omega arith) (omega arith) r same)
-          ∙ inv
-
-      pub choice-above : line_map_entry_size * n ≤ length s - at → is_above f q e ≡ true → found best ≡ choice_in s at n f q
-      choice-above l o =
-          sym (in-any s (at + line_map_entry_size * (i + 1)) (n - (i + 1)) (λ es. found best) (found best) (omega arith) (λ es. refl))
-          ∙ step (λ es. found best) (λ es. rw o)
-
-      pub choice-more : is_above f q e ≡ false → (later : Option Line) → later ≡ cond (eqb e.function f) (better best e) best
-          → choice_behind f q later s (at + line_map_entry_size * (i + 1)) (n - (i + 1)) ≡ choice_in s at n f q
-      choice-more o later z = step (λ es. found (choice_of f q later es)) (λ es. rw (o, z))
+    pub choice-more : is_above f q e ≡ false → (later : Option Line) → later ≡ cond (eqb e.function f) (better best e) best
+        → choice_of f q later (lines_of (drop (i + 1) rows)) ≡ choice_of f q none (lines_of rows)
+    choice-more o later z = rw z (rw o at here)
 
 -- On a sorted map
-
-both_true : (a b : Bool) → (a && b) ≡ true → (a ≡ true) × (b ≡ true)
-both_true true b e = (refl, e)
-both_true false b e = (e, cc)
 
 -- two neighbours
 abbrev Ordered : Line → Line → Type 0
@@ -69,17 +52,17 @@ ordered a b e = go (ltb a.function b.function) refl e
     go : (t : Bool) → ltb a.function b.function ≡ t → (t || (eqb a.function b.function && leb a.offset b.offset)) ≡ true → Ordered a b
     go true h e = inl (ltb-true _ _ h)
     go false h e =
-        let k = both_true (eqb a.function b.function) (leb a.offset b.offset) e in
+        let k = and_parts (eqb a.function b.function) (leb a.offset b.offset) e in
         inr (eqb-true _ _ k.0, leb-true _ _ k.1)
 
 sorted_head : (a b : Line) (es : List Line) → sorted (a ∷ b ∷ es) ≡ true → Ordered a b
 unfolding sorted
-sorted_head a b es h = ordered a b (both_true (in_order a b) (sorted (b ∷ es)) h).0
+sorted_head a b es h = ordered a b (and_parts (in_order a b) (sorted (b ∷ es)) h).0
 
 sorted_tail : (a : Line) (es : List Line) → sorted (a ∷ es) ≡ true → sorted es ≡ true
 unfolding sorted
 sorted_tail a [] h = refl
-sorted_tail a (b ∷ es) h = (both_true (in_order a b) (sorted (b ∷ es)) h).1
+sorted_tail a (b ∷ es) h = (and_parts (in_order a b) (sorted (b ∷ es)) h).1
 
 module _ (f q : ℕ) where
   -- an entry is above the query, or a candidate, or one of an earlier function
@@ -130,18 +113,11 @@ module _ (f q : ℕ) where
 
 -- The lookup, by what the order test and the choice answered
 
-module _ (s : List ℕ) (at n f q : ℕ) (h : line_map_entry_size * n ≤ length s - at) where
-  pub lookup-unsorted : {t : Bool} → found t ≡ sorted_in s at n → t ≡ false → refused unsorted_map ≡ source_line_in s at n f q
+module _ (s : List ℕ) (at n f q : ℕ) (es : List Line) (m : found es ≡ lines_at s at n) where
+  pub lookup-unsorted : {t : Bool} → t ≡ sorted es → t ≡ false → refused unsorted_map ≡ source_line_in s at n f q
   unfolding line_for
-  lookup-unsorted z u =
-      let k = lines-read s at n h in
-      let o : sorted k.0 ≡ false = sym (same-found (rw k.1 at z)) ∙ u in
-      rw (k.1, o)
+  lookup-unsorted z u = let o : sorted es ≡ false = sym z ∙ u in rw (← m, o)
 
-  pub lookup-chosen : {t : Bool} {x : Option Line} → found t ≡ sorted_in s at n → t ≡ true → found x ≡ choice_in s at n f q → present no_line x ≡ source_line_in s at n f q
+  pub lookup-chosen : {t : Bool} {x : Option Line} → t ≡ sorted es → t ≡ true → x ≡ choice_of f q none es → present no_line x ≡ source_line_in s at n f q
   unfolding line_for
-  lookup-chosen {x = x} z u c =
-      let k = lines-read s at n h in
-      let o : sorted k.0 ≡ true = sym (same-found (rw k.1 at z)) ∙ u in
-      let b : x ≡ choice_of f q none k.0 = same-found (rw k.1 at c) in
-      rw (k.1, o, b, choice-is-best f q none k.0 o)
+  lookup-chosen z u c = let o : sorted es ≡ true = sym z ∙ u in rw (← m, o, c, choice-is-best f q none es o)

@@ -1,48 +1,47 @@
--- The order test over the map's bytes: what is left behind an entry decides.
+-- std's order of the keys is that of the entries, and std's answer over the rows is whether the entries are sorted.
+use Prim.Native.Nat.{ℕ, zero, suc, ◌<◌}
+use mathlib.Core.Bool.{Bool, true, false, ◌&&◌, ◌||◌, and-false}
+use mathlib.Core.List.{List, [], ◌∷◌}
 use mathlib.Core.Path.{◌≡◌, refl, sym, ◌∙◌}
-use mathlib.Core.Bool.{Bool, true, false}
-use mathlib.Core.List.{List, ◌∷◌}
-use Prim.Native.Nat.{ℕ, ◌+◌, ◌*◌, ◌-◌, ◌≤◌, ◌<◌}
+use native.Mathlib.Numerals.{add-one}
 use native.Mathlib.Omega.{arith}
-use lib.ListN.{length, drop}
-use Rattle.reading.specs.Reader.{got}
-use Rattle.reading.specs.Answer.{Got, found}
-use Rattle.format.specs.Debug.{Line, line}
+use lib.Dec.{eqb, leb, ltb}
+use lib.ListN.{length, get_or}
+use Rattle.std.proofs.Common.{rules, tests, nat_cmp, Some}
+use Rattle.std.specs.List.{IsAllAdjacentAnswer}
+use Rattle.std.specs.Ordering.{partial_le, partial_ordering_then}
 use Rattle.format.specs.Lines.{in_order, sorted}
-use Rattle.line_map.specs.Lookups.{line_map_entry_size, in_lines, sorted_in}
-use Rattle.line_map.proofs.Entries.{in-none, in-any, in-more}
+use Rattle.line_map.specs.Map.{line_of, lines_of}
 
--- whether `last` and the `n` entries from the place `p` on are sorted
-abbrev pub sorted_behind : Line → List ℕ → ℕ → ℕ → Got Bool
-sorted_behind last s p n = in_lines s p n (λ es. found (sorted (last ∷ es)))
+abbrev before : List ℕ → List ℕ → Bool
+before a b = in_order (line_of a) (line_of b)
 
-module _ (s : List ℕ) (at n : ℕ) where
-  pub sorted_none : n ≡ 0 → found true ≡ sorted_in s at n
-  unfolding sorted
-  sorted_none z = sym (in-none s at n (λ es. found (sorted es)) z)
+-- std's test of two keys
+abbrev key_le : ℕ × ℕ → ℕ × ℕ → Bool
+key_le = partial_le (λ x y. partial_ordering_then (Some (nat_cmp x.0 y.0)) (Some (nat_cmp x.1 y.1)))
 
-  pub sorted-start : (e : Line) → (n ≡ 0 → ⊥) → line (drop at s) ≡ got e (drop (at + line_map_entry_size) s) → sorted_behind e s (at + line_map_entry_size * 1) (n - 1) ≡ sorted_in s at n
-  sorted-start e z r = sym (in-more s at n (λ es. found (sorted es)) (n - 1) (at + line_map_entry_size) e (λ es. found (sorted (e ∷ es))) (omega arith) refl r (λ es. refl))
+key_le-is : (a b c d : ℕ) → key_le (a, b) (c, d) ≡ (ltb a c || (eqb a c && leb b d))
+key_le-is a b c d = search (rules, tests)
 
-  -- the loop stands before the entry of index i
-  module _ (i : ℕ) (last : Line) (inv : sorted_behind last s (at + line_map_entry_size * i) (n - i) ≡ sorted_in s at n) where
-    pub sorted-end : n ≤ i → found true ≡ sorted_in s at n
-    unfolding sorted
-    sorted-end h = sym (in-none s (at + line_map_entry_size * i) (n - i) (λ es. found (sorted (last ∷ es))) (omega arith)) ∙ inv
+abbrev rows_le : List ℕ → List ℕ → Bool
+rows_le a b = key_le ((line_of a).function, (line_of a).offset) ((line_of b).function, (line_of b).offset)
 
-    module _ (e : Line) (h : i < n) (r : line (drop (at + line_map_entry_size * i) s) ≡ got e (drop (at + line_map_entry_size * i + line_map_entry_size) s)) where
-      step : (rest : List Line → Got Bool) → ((es : List Line) → found (sorted (last ∷ e ∷ es)) ≡ rest es)
-          → in_lines s (at + line_map_entry_size * (i + 1)) (n - (i + 1)) rest ≡ sorted_in s at n
-      step rest same =
-          sym (in-more s (at + line_map_entry_size * i) (n - i) (λ es. found (sorted (last ∷ es))) (n - (i + 1)) (at + line_map_entry_size * (i + 1)) e rest (omega arith) (omega arith) r same)
-          ∙ inv
+rows_le-is : (a b : List ℕ) → rows_le a b ≡ before a b
+rows_le-is a b = key_le-is (line_of a).function (line_of a).offset (line_of b).function (line_of b).offset
 
-      pub sorted_more : in_order last e ≡ true → sorted_behind e s (at + line_map_entry_size * (i + 1)) (n - (i + 1)) ≡ sorted_in s at n
-      unfolding sorted
-      sorted_more o = step (λ es. found (sorted (e ∷ es))) (λ es. rw o)
+sorted-all : (rows : List (List ℕ)) → ((k : ℕ) → suc k < length rows → before (get_or rows k []) (get_or rows (suc k) []) ≡ true) → sorted (lines_of rows) ≡ true
+unfolding sorted
+sorted-all [] h = refl
+sorted-all (a ∷ []) h = refl
+sorted-all (a ∷ b ∷ rows) h = rw (h 0 (omega arith), sorted-all (b ∷ rows) (λ k l. h (suc k) (omega arith)))
 
-      pub sorted-not : line_map_entry_size * n ≤ length s - at → in_order last e ≡ false → found false ≡ sorted_in s at n
-      unfolding sorted
-      sorted-not l o =
-          sym (in-any s (at + line_map_entry_size * (i + 1)) (n - (i + 1)) (λ es. found false) (found false) (omega arith) (λ es. refl))
-          ∙ step (λ es. found false) (λ es. rw o)
+sorted-not : (rows : List (List ℕ)) (k : ℕ) → suc k < length rows → before (get_or rows k []) (get_or rows (suc k) []) ≡ false → sorted (lines_of rows) ≡ false
+unfolding sorted
+sorted-not [] k h e = absurd (omega arith)
+sorted-not (a ∷ []) k h e = absurd (omega arith)
+sorted-not (a ∷ b ∷ rows) zero h e = rw e
+sorted-not (a ∷ b ∷ rows) (suc k) h e = rw (sorted-not (b ∷ rows) k (omega arith) e, and-false)
+
+pub sorted_by : (rows : List (List ℕ)) (r : Bool) → IsAllAdjacentAnswer (λ x y b. b ≡ rows_le x y) rows r → r ≡ sorted (lines_of rows)
+sorted_by rows true h = sym (sorted-all rows (λ k l. rw (← add-one k) (sym (rows_le-is _ _) ∙ sym (h k [] (omega arith)))))
+sorted_by rows false h = sym (sorted-not rows h.0 (omega (arith, h.1)) (rw (← add-one h.0) (sym (rows_le-is _ _) ∙ sym (h.2 []))))

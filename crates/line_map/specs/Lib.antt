@@ -2,5 +2,4 @@ pub mod Answers
 pub mod Choice
 pub mod Lookups
 pub mod Laws
-pub mod Stays
 pub mod Map

@@ -1,12 +1,10 @@
 -- What the functions answer, over the section's bytes `s` and a map of `n` entries at its place `at`.
 use Rattle.std.specs.Prelude.{ℕ, ◌*◌, ◌-◌, Bool, false, List, leb, length, drop}
-use Rattle.std.proofs.Math.Option.{Option, none}
 use Rattle.reading.specs.Reader.{many}
 use Rattle.reading.specs.Answer.{Got, refused, found, ◌>>=◌, item_of, indexed}
 use Rattle.format.specs.Faults.{no_entry}
 use Rattle.format.specs.Debug.{Line, line}
 use Rattle.format.specs.Lines.{sorted, line_for}
-use Rattle.line_map.specs.Choice.{choice_of}
 
 -- the bytes of an entry of the map
 abbrev pub line_map_entry_size : ℕ
@@ -30,9 +28,6 @@ is_true (found b) = b
 
 abbrev pub is_sorted : List ℕ → ℕ → ℕ → Bool
 is_sorted s at n = is_true (sorted_in s at n)
-
-abbrev pub choice_in : List ℕ → ℕ → ℕ → ℕ → ℕ → Got (Option Line)
-choice_in s at n function query = in_lines s at n (λ es. found (choice_of function query none es))
 
 -- the entry for a function and an offset: 14 on a map that is not sorted, 13 if the function has no entry at or before the offset
 abbrev pub source_line_in : List ℕ → ℕ → ℕ → ℕ → ℕ → Got Line

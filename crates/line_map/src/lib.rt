@@ -1,25 +1,28 @@
-// The debug section's line map, and the lookup of a source location in it. `s` is the section; the map of `n` entries starts at its place `at`.
+// The debug section's line map, and the lookup of a source location in it. `s` is the section, and `t` says where the map stands in it and how many entries it has.
 #![tactic(auto)]
 
-ghost use Rattle.std.specs.Prelude.{◌≡◌, ◌+◌, ◌≤◌, length, drop};
-ghost use Rattle.reading.specs.Reader.{got};
+ghost use Rattle.std.specs.Prelude.{◌≡◌};
+ghost use Rattle.std.proofs.Common.{rules};
+ghost use Rattle.reading.proofs.Left.{stays-local};
+ghost use Rattle.reading.proofs.Width.{fixed-width};
 ghost use Rattle.format.specs.Debug.{Line, line};
+ghost use Rattle.format.proofs.Readers.{local-line};
+ghost use Rattle.format.proofs.Widths.{line-fixed};
 ghost use Rattle.base.specs.Answers.{got_from};
 ghost use Rattle.base.specs.Error.{fault_of};
 ghost use Rattle.line_map.specs.Answers.{line_in};
-ghost use Rattle.line_map.specs.Lookups.{line_map_entry_size, lines_fit, is_sorted, source_line_in, line_of_map};
-ghost use Rattle.line_map.specs.Map.{map_in, map_at};
+ghost use Rattle.line_map.specs.Lookups.{line_map_entry_size, is_sorted, source_line_in, line_of_map};
+ghost use Rattle.line_map.specs.Map.{line_of, lines_of, lines_at};
 ghost use Rattle.line_map.specs.Laws.{Laws};
-ghost use Rattle.line_map.specs.Stays.{line_stays};
 
 mod map;
 
-use crate::map::LineMap;
+use crate::map::{Bytes, choose, never_falls};
 use base::cut::Cut;
-use base::entry::Entry;
+use base::entry::{Entry, OneWidth, Plain};
 use base::error::ContainerError;
 use base::id_types::{FunctionId, SourceColumn, SourceFileId, SourceLine};
-use reading::u16_at;
+use reading::{Table, u16_at};
 
 pub const LINE_MAP_ENTRY_SIZE: usize = 10;
 
@@ -33,17 +36,16 @@ pub struct LineMapEntry {
     pub source_column: SourceColumn,
 }
 
-// The entry at the place `at`.
-fn entry_at(s: &[u8], at: usize) -> LineMapEntry
-    requires { at + line_map_entry_size ≤ length s.now }
-    ensures { line (drop at s.now) ≡ got (line_in result) (drop (at + line_map_entry_size) s.now) }
+// The entry of these bytes.
+fn entry_of(row: &Bytes) -> LineMapEntry
+    ensures { line_in result ≡ line_of row.now }
 {
     LineMapEntry {
-        function_id: FunctionId(u16_at(s, at)),
-        bytecode_offset: u16_at(s, at + 2),
-        file_id: SourceFileId(u16_at(s, at + 4)),
-        source_line: SourceLine(u16_at(s, at + 6)),
-        source_column: SourceColumn(u16_at(s, at + 8)),
+        function_id: FunctionId(u16_at(row, 0)),
+        bytecode_offset: u16_at(row, 2),
+        file_id: SourceFileId(u16_at(row, 4)),
+        source_line: SourceLine(u16_at(row, 6)),
+        source_column: SourceColumn(u16_at(row, 8)),
     }
 }
 
@@ -58,39 +60,42 @@ impl Entry for LineMapEntry {
 
     ghost reader = { λ _. line };
 
-    ghost stays = { λ _. line_stays };
+    ghost stays = { λ _ s. stays-local s local-line };
 
     fn read(cut: Cut, at: usize) -> Result<(Self, usize), ContainerError> {
-        if cut.left(at) < LINE_MAP_ENTRY_SIZE {
+        let Some(row) = cut.bytes[at.min(cut.bytes.len())..].first_chunk() else {
             return Err(ContainerError::ShortInput);
-        }
-        Ok((entry_at(cut.bytes, at), at + LINE_MAP_ENTRY_SIZE))
+        };
+        Ok((entry_of(row), at + LINE_MAP_ENTRY_SIZE))
     }
 }
 
-// The map of `n` entries at the place `at`.
-fn map_at(s: &[u8], at: usize, n: usize) -> Result<LineMap, ContainerError>
-    ensures { got_from map_in result ≡ map_at s.now at n }
-{
-    if n <= s.len().saturating_sub(at) / LINE_MAP_ENTRY_SIZE {
-        return Ok(LineMap { s, at, n });
-    }
-    Err(ContainerError::ShortInput)
+impl OneWidth for LineMapEntry {
+    const WIDTH: usize = LINE_MAP_ENTRY_SIZE;
+
+    ghost WIDTH = { line_map_entry_size };
+
+    ghost width = { λ _. (Prim.search rules, fixed-width line-fixed) };
 }
 
-// Whether the section holds the whole map.
-pub fn lines_fit(s: &[u8], at: usize, n: usize) -> bool
-    ensures { result ≡ lines_fit s.now at n }
+impl Plain for LineMapEntry {
+    ghost fixed = { λ _. line-fixed };
+}
+
+// The map that is this table.
+fn map_at(s: &[u8], t: Table) -> Result<&[Bytes], ContainerError>
+    ensures { got_from (λ map. lines_of map.now) result ≡ lines_at s.now t.at t.count }
 {
-    map_at(s, at, n).is_ok()
+    let (rows, _) = s[t.at.min(s.len())..].as_chunks();
+    rows.get(..t.count).ok_or(ContainerError::ShortInput)
 }
 
 // Whether the map is sorted. A map that the section does not hold whole is not.
-pub fn is_sorted(s: &[u8], at: usize, n: usize) -> bool
-    ensures { result ≡ is_sorted s.now at n }
+pub fn is_sorted(s: &[u8], t: Table) -> bool
+    ensures { result ≡ is_sorted s.now t.at t.count }
 {
-    match map_at(s, at, n) {
-        Ok(map) => map.never_falls(),
+    match map_at(s, t) {
+        Ok(map) => never_falls(map),
         Err(_) => false,
     }
 }
@@ -98,30 +103,27 @@ pub fn is_sorted(s: &[u8], at: usize, n: usize) -> bool
 // The source location of an offset in a function's bytecode: the function's last entry with the greatest offset not above it.
 pub fn lookup_source_location(
     s: &[u8],
-    at: usize,
-    n: usize,
+    t: Table,
     function_id: FunctionId,
     bytecode_offset: u16,
 ) -> Result<LineMapEntry, ContainerError>
-    ensures { got_from line_in result ≡ source_line_in s.now at n function_id.0 bytecode_offset }
+    ensures { got_from line_in result ≡ source_line_in s.now t.at t.count function_id.0 bytecode_offset }
 {
-    let map = map_at(s, at, n)?;
-    if !map.never_falls() {
+    let map = map_at(s, t)?;
+    if !never_falls(map) {
         return Err(ContainerError::UnsortedMap);
     }
-    map.choose(function_id, bytecode_offset)
-        .ok_or(ContainerError::NoLine)
+    choose(map, function_id, bytecode_offset).ok_or(ContainerError::NoLine)
 }
 
 // The entry at an index of the map.
-pub fn line(s: &[u8], at: usize, n: usize, k: usize) -> Result<LineMapEntry, ContainerError>
-    ensures { got_from line_in result ≡ line_of_map s.now at n k }
+pub fn line(s: &[u8], t: Table, k: usize) -> Result<LineMapEntry, ContainerError>
+    ensures { got_from line_in result ≡ line_of_map s.now t.at t.count k }
 {
-    let map = map_at(s, at, n)?;
-    if n <= k {
+    let Some(row) = map_at(s, t)?.get(k) else {
         return Err(ContainerError::NoEntry);
-    }
-    Ok(map.entry(k))
+    };
+    Ok(entry_of(row))
 }
 
 // The claims of `specs/Laws.antt` hold. Empty body: the contract makes the checker prove them.

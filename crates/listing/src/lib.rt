@@ -2,12 +2,11 @@
 // definition, in `specs/Listing.antt`.
 #![tactic(auto)]
 
-ghost use Rattle.std.proofs.Math.Option.{none, some};
 ghost use Rattle.base.specs.Error.{fault_of};
 ghost use Rattle.lent.specs.Output.{Puts};
 ghost use Rattle.header.specs.Answers.{header_in};
 ghost use Rattle.listing.specs.Lines.{container_line, debug_line, end_line, refused_line};
-ghost use Rattle.debug_tables.specs.Answers.{debug_counts_in, maybe_debug};
+ghost use Rattle.debug_tables.specs.Answers.{maybe_debug};
 ghost use Rattle.listing.specs.Laws.{AllLaws};
 
 use base::error::ContainerError;
@@ -24,9 +23,12 @@ pub fn put_container(out: &mut [u8], at: usize, h: FileHeader) -> Option<usize>
 }
 
 // The counts of the debug tables.
-fn put_counts(out: &mut [u8], at: usize, c: DebugCounts) -> Option<usize>
-    ensures { Puts out.old at (debug_line (some (debug_counts_in c))) out.new result }
+pub fn put_debug(out: &mut [u8], at: usize, debug: Option<DebugCounts>) -> Option<usize>
+    ensures { Puts out.old at (debug_line (maybe_debug debug)) out.new result }
 {
+    let Some(c) = debug else {
+        return put_text(out, at, b"debug none\n");
+    };
     let ns = [
         c.lines as u64,
         c.variables as u64,
@@ -36,21 +38,6 @@ fn put_counts(out: &mut [u8], at: usize, c: DebugCounts) -> Option<usize>
         c.enumerations as u64,
     ];
     put_line(out, at, b"debug", &ns)
-}
-
-fn put_no_debug(out: &mut [u8], at: usize) -> Option<usize>
-    ensures { Puts out.old at (debug_line none) out.new result }
-{
-    put_text(out, at, b"debug none\n")
-}
-
-pub fn put_debug(out: &mut [u8], at: usize, debug: Option<DebugCounts>) -> Option<usize>
-    ensures { Puts out.old at (debug_line (maybe_debug debug)) out.new result }
-{
-    match debug {
-        None => put_no_debug(out, at),
-        Some(c) => put_counts(out, at, c),
-    }
 }
 
 pub fn put_end(out: &mut [u8], at: usize) -> Option<usize>
@@ -63,20 +50,13 @@ pub fn put_end(out: &mut [u8], at: usize) -> Option<usize>
 pub fn put_refused(out: &mut [u8], at: usize, e: ContainerError) -> Option<usize>
     ensures { Puts out.old at (refused_line (fault_of e)) out.new result }
 {
-    let number = e.number() as u64;
     let values = e.values();
-    let first = values.first as u64;
-    let second = values.second as u64;
+    let all = [e.number() as u64, values.first as u64, values.second as u64];
+    let ns = &all[..1 + values.count];
     if values.count == 0 {
-        let ns = [number];
-        return put_dash_line(out, at, b"refused", &ns);
+        return put_dash_line(out, at, b"refused", ns);
     }
-    if values.count == 1 {
-        let ns = [number, first];
-        return put_line(out, at, b"refused", &ns);
-    }
-    let ns = [number, first, second];
-    put_line(out, at, b"refused", &ns)
+    put_line(out, at, b"refused", ns)
 }
 
 // The claims of `specs/Laws.antt` hold. Empty body: the contract makes the checker prove them.

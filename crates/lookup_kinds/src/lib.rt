@@ -21,6 +21,7 @@ fn of_kind(c: Container, file: &[u8], kind: Kind, index: u16, second: u16) -> Nu
 {
     let constant = ConstantIndex(index);
     let function = FunctionId(index);
+    // Kept: each arm calls another method, whose answer has a type of its own.
     match kind {
         Kind::Task => answer_numbers(c.task(file, index)),
         Kind::Program => answer_numbers(c.program(file, index)),

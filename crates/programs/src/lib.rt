@@ -20,19 +20,15 @@ pub fn file_room() -> [u8; FILE_ROOM]
 }
 
 // Reads until `room` is full, the input ends or a read fails; the result is how many bytes of `room` are filled.
+// Kept: a loop of its own, since std's `read_exact` does not say how many bytes it read of an input that ends early.
 pub fn read_full(input: &mut impl Read, room: &mut [u8]) -> usize
     ensures { IsPrefixLen result room.new }
 {
     let mut done = 0;
     while done < room.len() {
         match input.read(&mut room[done..]) {
-            Ok(n) => {
-                if n == 0 {
-                    break;
-                }
-                done += n;
-            }
-            Err(_) => break,
+            Ok(0) | Err(_) => break,
+            Ok(n) => done += n,
         }
     }
     done
@@ -50,10 +46,7 @@ pub fn read_input(rt: &impl Input, room: &mut [u8; FILE_ROOM]) -> usize
 pub fn first(bytes: &[u8], n: usize) -> &[u8]
     ensures { result.now ≡ take n bytes.now }
 {
-    if n < bytes.len() {
-        return &bytes[..n];
-    }
-    bytes
+    bytes.get(..n).unwrap_or(bytes)
 }
 
 // Writes to standard output. A write that fails is not reported.

@@ -5,7 +5,7 @@ use native.Mathlib.Numerals.{sub-one}
 use native.Mathlib.Omega.{arith}
 use mathlib.Core.Path.{◌≡◌, refl, ap, ◌∙◌}
 use mathlib.Core.List.{List, [], ◌∷◌, ◌++◌}
-use lib.ListN.{length, take, drop, get_or, replicate, length-drop}
+use lib.ListN.{length, take, drop, get_or, replicate}
 use lib.Seq.{drop-cons, get_or-drop, take-nil}
 use Rattle.std.specs.Int.{byte_at, bytes_low_first}
 use Rattle.std.proofs.Math.Nat.{div-div-eq-div-mul}
@@ -35,9 +35,6 @@ pub le-zeros : (n : ℕ) → le (replicate n 0) ≡ 0
 unfolding le
 le-zeros zero = refl
 le-zeros (suc n) = let ih = le-zeros n in omega arith
-
-pub le-fill : (l : List ℕ) (n : ℕ) → le (l ++ replicate n 0) ≡ le l
-le-fill l n = le-append l (replicate n 0) ∙ rw (le-zeros n) (omega arith)
 
 -- every element is a byte, and so it is in every part
 abbrev pub Bytes : List ℕ → Type 0
@@ -75,16 +72,6 @@ le-fits (suc k) (b ∷ bs) h g =
     let ih = le-fits k bs (λ i. h (suc i)) (omega arith) in
     let e : 256 ^ suc k ≡ 256 * 256 ^ k = rw pow-succ' in
     omega (arith, h 0)
-
--- the bytes from i on, low byte first: one byte more, and their bound
-pub le_step : (s : List ℕ) (i : ℕ) → 0 < i → i ≤ length s → le (drop (i - 1) s) ≡ get_or s (i - 1) 0 + 256 * le (drop i s)
-unfolding le
-le_step s i p h =
-    let e : suc (i - 1) ≡ i = omega arith in
-    ap le (drop-cons s (i - 1) 0 (omega arith)) ∙ ap (λ (n : ℕ). get_or s (i - 1) 0 + 256 * le (drop n s)) e
-
-pub le-drop-fits : (k : ℕ) (s : List ℕ) (i : ℕ) → Bytes s → length s ≤ i + k → le (drop i s) < 256 ^ k
-le-drop-fits k s i h g = le-fits k (drop i s) (bytes_drop s i h) (simp length-drop (omega arith))
 
 pub bytes-length : (w n : ℕ) → length (bytes_le w n) ≡ w
 unfolding bytes_le

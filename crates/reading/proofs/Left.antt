@@ -1,15 +1,15 @@
 -- What is left of a section behind some of its bytes; and the law that a caller's walk over a table gives the table.
 use mathlib.Core.Path.{◌≡◌, refl, sym, ap, ◌∙◌}
-use mathlib.Core.Bool.{Bool, true, false, cond}
+use mathlib.Core.Bool.{false}
 use mathlib.Core.List.{List, [], ◌∷◌}
 use Prim.Native.Nat.{ℕ, zero, suc, ◌+◌, ◌-◌, ◌≤◌}
 use native.Mathlib.Decide.{dec_le}
 use native.Mathlib.Omega.{arith}
 use lib.ListN.{length, drop, length-append, length-drop}
-use lib.Dec.{eqb, ltb}
+use lib.Dec.{eqb}
 use lib.Seq.{drop-drop, drop_at, drop-length, drop-nil}
 use borrow.Author.Tests.{ne_eqb}
-use Rattle.reading.specs.Reader.{Read, fault, got, Reader, next, ◌>>=◌ as ◌>>=r◌, give, left, many, counted, counted_or_none}
+use Rattle.reading.specs.Reader.{Read, fault, got, Reader, next, ◌>>=◌ as ◌>>=r◌, give, left, many, counted}
 use Rattle.reading.specs.Answer.{found, ◌>>=◌, item_of}
 use Rattle.reading.specs.Places.{left_of, next_of, step_of, on_next, walked}
 use Rattle.reading.specs.declared.Table.{Table}
@@ -81,13 +81,6 @@ stays-many whole (suc n) h = stays-bind whole h λ a. stays-bind whole (stays-ma
 
 pub stays-counted : {A : Type 0} (whole : List ℕ) {r : Reader A} → Stays whole r → Stays whole (counted r)
 stays-counted whole h = stays-bind whole (stays-local whole (local-number 2)) λ n. stays-many whole n h
-
-pub stays-counted-or-none : {A : Type 0} (whole : List ℕ) {r : Reader A} → Stays whole r → Stays whole (counted_or_none r)
-stays-counted-or-none {A} whole {r} h = record { leaves = λ s xs t w e. go (ltb (length s) 2) s xs t w e }
-  where
-    go : (few : Bool) (s : List ℕ) (xs : List A) (t : List ℕ) → LeftOf whole s → cond few (got [] s) (counted r s) ≡ got xs t → LeftOf whole t
-    go true s xs t w e = let z : s ≡ t = cc in rw z at w
-    go false s xs t w e = (stays-counted whole h).leaves s xs t w e
 
 -- a caller's walk over a table, step by step, gives what reading the table gives
 pub walk-is-table : {A : Type 0} (whole : List ℕ) (r : Reader A) → Stays whole r → (n : ℕ) (t : Table) → t.count ≡ n → walked n r whole t ≡ item_of (many n r (drop t.at whole))

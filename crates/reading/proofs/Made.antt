@@ -1,14 +1,13 @@
 -- Items made into others: the same places are passed.
 use mathlib.Core.Path.{◌≡◌, refl, sym, ap, ◌∙◌}
 use mathlib.Core.List.{List, ◌∷◌, map}
-use Prim.Native.Nat.{ℕ, zero, suc, ◌+◌, ◌<◌}
+use Prim.Native.Nat.{ℕ, zero, suc}
 use lib.ListN.{drop}
 use Rattle.reading.specs.Fault.{Fault}
 use Rattle.reading.specs.Reader.{Read, fault, got, Reader, next, ◌>>=◌, give, many}
-use Rattle.reading.specs.Places.{Step, stops, item, Reads, Way, Goes, Holds}
+use Rattle.reading.specs.Places.{Holds}
 use Rattle.reading.specs.declared.Table.{Table}
 use Rattle.reading.proofs.Reading.{never, both}
-use Rattle.reading.proofs.Passing.{Passed, passed-stop, passed-more, goes-as, goes_map, reads-told}
 
 module _ {A B : Type 0} (m : A → B) where
   abbrev pub made : Reader A → Reader B
@@ -40,18 +39,5 @@ module _ {A B : Type 0} (m : A → B) where
       go rec (got a z) = rw (rec z) (last a (many n r z))
 
   module _ (r : Reader A) (s : List ℕ) where
-    pub goes-made : (n at : ℕ) (w : Way) → Goes (many n r) s at w → Goes (many n (made r)) s at w
-    goes-made n at w g = goes-as (many n (made r)) s at (many n r >>= λ xs. give (map m xs)) at w (many-made r n (drop at s)) (goes_map (many n r) s (map m) at w g)
-
     pub holds-made : (t : Table) (xs : List A) → Holds r s t xs → Holds (made r) s t (map m xs)
     holds-made t xs h = record { within = h.within; rest = h.rest; reads = many-made r t.count (drop t.at s) ∙ ap (λ y. next y (λ xs. give (map m xs))) h.reads }
-
-    -- a walk that reads the others
-    pub made-stop : (n at i p : ℕ) (f : Fault) {v : Step B} → i < n → Passed r s n at i p → v ≡ stops f → Reads (made r) s p v → many n r (drop at s) ≡ fault f
-    made-stop n at i p f l k e g = passed-stop r s n at i p f l k (made-stops (r (drop p s)) f (reads-told (made r) s p e g))
-
-    pub made_more : (n at i p : ℕ) (b : B) (q : ℕ) {v : Step B} → i < n → Passed r s n at i p → v ≡ item b q → Reads (made r) s p v → Passed r s n at (i + 1) q
-    made_more n at i p b q l k e g =
-        let h = reads-told (made r) s p e g in
-        let a = made-gives (r (drop p s)) b (drop q s) h.1 in
-        passed-more r s n at i p a.0 q l k h.0 a.1

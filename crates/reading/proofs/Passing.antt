@@ -7,26 +7,11 @@ use native.Mathlib.Omega.{arith}
 use lib.ListN.{length, drop, length-drop}
 use Rattle.reading.specs.Fault.{Fault, short_input}
 use Rattle.reading.specs.Numbers.{le_at}
-use Rattle.reading.specs.Reader.{fault, got, Reader, ◌>>=◌, give, many, counted}
-use Rattle.reading.specs.Places.{Step, stops, item, Reads, Way, stops_by, on_to, Goes}
+use Rattle.reading.specs.Reader.{fault, got, Reader, many, counted}
+use Rattle.reading.specs.Places.{Step, Reads, Way, stops_by, on_to, Goes}
 use Rattle.reading.proofs.Reading.{number_at, number_short}
 
 module _ {A : Type 0} (r : Reader A) (s : List ℕ) where
-  -- a reader that reads as another does at another place goes where that goes
-  pub goes-as : (at : ℕ) (q : Reader A) (to : ℕ) (w : Way) → r (drop at s) ≡ q (drop to s) → Goes q s to w → Goes r s at w
-  goes-as at q to (stops_by f) e g = rw e g
-  goes-as at q to (on_to m) e g = (g.0, (g.1.0, rw e g.1.1))
-
-  -- one reader, and then another
-  pub goes_bind : {B : Type 0} (go : A → Reader B) (at : ℕ) (a : A) (m : ℕ) (w : Way) → r (drop at s) ≡ got a (drop m s) → Goes (go a) s m w → Goes (r >>= go) s at w
-  goes_bind go at a m (stops_by f) e g = rw e g
-  goes_bind go at a m (on_to k) e g = (g.0, (g.1.0, rw e g.1.1))
-
-  -- the item made into another
-  pub goes_map : {B : Type 0} (f : A → B) (at : ℕ) (w : Way) → Goes r s at w → Goes (r >>= (λ a. give (f a))) s at w
-  goes_map f at (stops_by x) g = rw g
-  goes_map f at (on_to m) g = (g.0, (f g.1.0, rw g.1.1))
-
   -- `i` of `n` items are passed, and the next stands at `p`: what the rest does from there, all do from `at`
   pub record Passed (n at i p : ℕ) : Type 0 where
     pub within : p ≤ length s
@@ -59,17 +44,5 @@ module _ {A : Type 0} (r : Reader A) (s : List ℕ) where
   pub counted-as : (at n : ℕ) → at + 2 ≤ length s → n ≡ le_at 2 s at → counted r (drop at s) ≡ many n r (drop (at + 2) s)
   counted-as at n h e = rw (number_at 2 s at (at + 2) refl h, e)
 
--- what a `match` on an answer showed
-pub goes-told : {A : Type 0} (r : Reader A) (s : List ℕ) (at : ℕ) {v w : Way} → v ≡ w → Goes r s at v → Goes r s at w
-goes-told r s at e g = subst (λ x. Goes r s at x) e g
-
 pub reads-told : {A : Type 0} (r : Reader A) (s : List ℕ) (at : ℕ) {v w : Step A} → v ≡ w → Reads r s at v → Reads r s at w
 reads-told r s at e g = subst (λ x. Reads r s at x) e g
-
--- a walk, by what was read at its place
-module _ {A : Type 0} (r : Reader A) (s : List ℕ) (n at i p : ℕ) where
-  pub walk-stop : (f : Fault) {v : Step A} → i < n → Passed r s n at i p → v ≡ stops f → Reads r s p v → many n r (drop at s) ≡ fault f
-  walk-stop f l k e g = passed-stop r s n at i p f l k (reads-told r s p e g)
-
-  pub walk_more : (a : A) (m : ℕ) {v : Step A} → i < n → Passed r s n at i p → v ≡ item a m → Reads r s p v → Passed r s n at (i + 1) m
-  walk_more a m l k e g = let h = reads-told r s p e g in passed-more r s n at i p a m l k h.0 h.1

@@ -10,13 +10,12 @@ use lib.ListN.{length, take, drop, length-drop}
 use lib.Seq.{drop-drop}
 use Rattle.reading.specs.Fault.{Fault}
 use Rattle.reading.specs.Numbers.{le_at}
-use Rattle.reading.specs.Reader.{Read, fault, got, Reader, next, give, number, many, counted}
+use Rattle.reading.specs.Reader.{Read, fault, got, Reader, next, give, many, counted}
 use Rattle.reading.specs.Answer.{Got, refused, found, indexed}
-use Rattle.reading.specs.Places.{Step, stops, item, Reads, on_to, Goes, Holds}
+use Rattle.reading.specs.Places.{Step, stops, item, on_to, Goes, Holds}
 use Rattle.reading.specs.declared.Table.{Table}
-use Rattle.reading.proofs.Le.{Bytes}
-use Rattle.reading.proofs.Reading.{never, both, number_fits}
-use Rattle.reading.proofs.Passing.{reads-told, counted-short, counted-as}
+use Rattle.reading.proofs.Reading.{never, both}
+use Rattle.reading.proofs.Passing.{counted-short, counted-as}
 use Rattle.reading.proofs.Width.{Width, width-many}
 
 -- the item at an index, read at `x`
@@ -115,31 +114,10 @@ module _ {A : Type 0} (r : Reader A) where
   pub at_reads : {xs : List A} {k : ℕ} {x : List ℕ} → At r xs k x → (f : Fault) → r x ≡ fault f → ⊥
   at_reads h f e = never (sym e ∙ h.reads)
 
-  -- the same by what was read at a place `p`, and what a `match` on the answer showed
-  module _ {xs : List A} {k : ℕ} (s : List ℕ) (p : ℕ) (h : At r xs k (drop p s)) (out : Fault) where
-    at-is : (x : Step A) → Reads r s p x → answer_by x ≡ indexed out xs k
-    at-is (stops f) g = absurd (at_reads h f g)
-    at-is (item a m) g = sym (at-picked h a (drop m s) g.1 out)
-
-    at-found : {v x : Step A} → v ≡ x → Reads r s p v → answer_by x ≡ indexed out xs k
-    at-found {v} {x} e g = at-is x (reads-told r s p e g)
-
   -- the same over the places of a section
   module _ (s : List ℕ) (t : Table) (xs : List A) (h : Holds r s t xs) where
     pub holds_walked : (k m : ℕ) → k < t.count → Goes (many k r) s t.at (on_to m) → At r xs k (drop m s)
     holds_walked k m l g = at-walked k t.count (drop t.at s) (drop m s) xs g.1.0 h.rest l h.reads g.1.1
-
-    pub holds-width : {w : ℕ} → Width w r → (k : ℕ) → k < t.count → At r xs k (drop (t.at + w * k) s)
-    holds-width {w} hw k l = rw drop-drop at (at_width hw k t.count (drop t.at s) xs h.rest l h.reads)
-
-    pub holds-found : {w : ℕ} → Width w r → (k : ℕ) → k < t.count → (out : Fault) {v x : Step A} → v ≡ x → Reads r s (t.at + w * k) v → answer_by x ≡ indexed out xs k
-    holds-found {w} hw k l out e g = at-found s (t.at + w * k) (holds-width hw k l) out e g
-
-    -- and lies in the section
-    pub holds_fits : {w : ℕ} → Width w r → 0 < w → (k : ℕ) → k < t.count → t.at + w * k + w ≤ length s
-    holds_fits {w} hw p k l =
-        let a = holds-width hw k l in
-        omega (arith, (hw.takes (drop (t.at + w * k) s) a.item a.behind a.reads).1, length-drop (t.at + w * k) s)
 
     pub holds-stops : (k : ℕ) (f : Fault) → k ≤ t.count → many k r (drop t.at s) ≡ fault f → ⊥
     holds-stops k f l g = never-stops k t.count (drop t.at s) xs h.rest f l h.reads g
@@ -153,19 +131,6 @@ module _ {A : Type 0} (r : Reader A) where
   many-length (suc n) x xs rest e =
       let c = cons r n x xs rest e in
       ap length c.all ∙ ap suc (many-length n c.middle c.others rest c.reads-others)
-
-  -- a table with its count in front that is readable: the count is there, and the entries stand behind it
-  module _ (s : List ℕ) (at m : ℕ) (g : Goes (counted r) s at (on_to m)) where
-    pub counted-room : at ≤ length s → at + 2 ≤ length s
-    counted-room h = go (dec_le (at + 2) (length s))
-      where
-        go : Dec (at + 2 ≤ length s) → at + 2 ≤ length s
-        go (yes i) = i
-        go (no i) = never (sym (counted-short r s at (omega arith)) ∙ g.1.1)
-
-    pub counted-holds : (t : Table) → at + 2 ≤ length s → t.at ≡ at + 2 → t.count ≡ le_at 2 s at → Holds r s t g.1.0
-    counted-holds t h p n =
-        record { within = omega arith; rest = drop m s; reads = ap (λ (i : ℕ). many t.count r (drop i s)) p ∙ sym (counted-as r s at t.count h n) ∙ g.1.1 }
 
   -- a table with its count in front that reads stands behind the count
   pub counted-stands : (s : List ℕ) (at : ℕ) (xs : List A) (x : List ℕ) → at ≤ length s → counted r (drop at s) ≡ got xs x → Holds r s (record { at = at + 2; count = length xs }) xs
@@ -181,13 +146,6 @@ module _ {A : Type 0} (r : Reader A) where
   -- a table that reads has as many entries as its count says
   pub holds-count : (s : List ℕ) (t : Table) (xs : List A) → Holds r s t xs → t.count ≡ length xs
   holds-count s t xs h = sym (many-length t.count (drop t.at s) xs h.rest h.reads)
-
-  -- of a list of bytes: a count of two bytes is below 65,536
-  pub counted-few : (x : List ℕ) (xs : List A) (rest : List ℕ) → Bytes x → counted r x ≡ got xs rest → length xs < 65536
-  counted-few x xs rest b e =
-      let p = both (number 2 x) e in
-      let l = many-length p.item p.middle xs rest p.second in
-      omega (arith, number_fits 2 x p.item p.middle b p.first)
 
 -- `n` items that were read at a place: they stand there as a table, and items of one width reach as far as they are many
 module _ {A : Type 0} (r : Reader A) (n at : ℕ) (s x rest : List ℕ) (xs : List A) (e : x ≡ drop at s) (h : at ≤ length s) (g : many n r x ≡ got xs rest) where

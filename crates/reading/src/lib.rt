@@ -11,6 +11,8 @@ pub struct Table {
     pub count: usize,
 }
 
+// Kept: one function for each width. A trait of the widths with its impls would be longer than these four bodies.
+
 #[tactic(auto, using(crate::proofs::Le::le_at_one))]
 pub fn u8_at(s: &[u8], at: usize) -> u8
     requires { at + 1 ≤ length s.now }

@@ -9,11 +9,10 @@ use Rattle.format.specs.Parts.{limit, Place, by_place}
 use Rattle.format.specs.Types.{TypeTables, type_tables}
 use Rattle.format.specs.Debug.{Tables}
 use Rattle.format.specs.Record.{TypeCounts, DebugCounts, Container}
-use Rattle.format.specs.Constants.{as_number, signed, as_string, char_width}
-use Rattle.format.specs.Lookups.{read_at, types_by, types_in, debug_by, debug_in, constant_of, number_of, string_of, char_width_of}
+use Rattle.format.specs.Constants.{as_string}
+use Rattle.format.specs.Lookups.{read_at, types_by, types_in, debug_by, debug_in, constant_of, string_of}
 use Rattle.format.proofs.Answers.{assoc, never, same-found}
-use Rattle.constant_pool.specs.Picks.{number_picked}
-use Rattle.constant_pool.specs.Lookups.{pool_at, constant_at, string_at, char_width_at}
+use Rattle.constant_pool.specs.Lookups.{pool_at, string_at}
 use Rattle.debug_section.specs.Lookups.{debug_tables_at, starts_at}
 use Rattle.debug_tables.specs.SixTags.{DebugTables}
 use Rattle.record.specs.Absence.{absent_fault, place_by, types_place, debug_place}
@@ -87,14 +86,5 @@ module _ (f : List ℕ) (r : Container) where
 
 -- a getter picks from the constant at an index; the lookup goes through the section's constants
 module _ (f : List ℕ) (p : Place) (i : ℕ) where
-  pub number_picked_as : (kind width : ℕ) → number_picked kind width (constant_at f p i) ≡ (pool_at f p >>= number_of kind width i)
-  number_picked_as kind width = assoc (pool_at f p) (constant_of i) (as_number kind width)
-
-  pub signed_picked : (kind width half : ℕ) → (number_picked kind width (constant_at f p i) >>= λ n. found (signed half n)) ≡ (pool_at f p >>= number_of kind width i >>= λ n. found (signed half n))
-  signed_picked kind width half = ap (λ x. x >>= λ n. found (signed half n)) (number_picked_as kind width)
-
   pub string_picked : string_at f p i ≡ (pool_at f p >>= string_of i)
   string_picked = assoc (pool_at f p) (constant_of i) as_string
-
-  pub width_picked : char_width_at f p i ≡ (pool_at f p >>= char_width_of i)
-  width_picked = assoc (pool_at f p) (constant_of i) char_width

@@ -63,8 +63,10 @@ fn absent(file: &[u8], out: ContainerError) -> ContainerError
     out
 }
 
+// Kept: a method for each lookup and each walk, by the names of document 01 and the Rust, which users call; each is one call.
 impl Container {
     // The place of the type section, where the record has types.
+    // Kept: beside `debug_section`. One for both would take counts, section and refusal, and these two would still call it.
     fn type_section(self, file: &[u8]) -> Result<Section, ContainerError>
         ensures { got_from place_in result ≡ types_place file.now (container_in self) }
     {

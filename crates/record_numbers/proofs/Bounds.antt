@@ -1,25 +1,20 @@
 -- Numbers that fit their fields, and numbers that do not.
-use Prim.Native.Nat.{ℕ, zero, suc, ◌+◌, ◌<◌, ◌≤◌, ◌%◌}
+use Prim.Native.Nat.{ℕ, zero, suc, ◌<◌, ◌≤◌}
 use mathlib.Core.Bool.{Bool, true, false, ◌&&◌, and-false, cond}
 use mathlib.Core.List.{List, [], ◌∷◌, ◌++◌}
-use mathlib.Core.Option.{Option, none, some}
-use mathlib.Core.Path.{◌≡◌, refl, sym, ap, ◌∙◌, fun_ext}
-use native.Mathlib.Nat.{zero-mod, mod-eq_of_lt}
-use native.Mathlib.Numerals.{add-one}
+use mathlib.Core.Option.{none, some}
+use mathlib.Core.Path.{◌≡◌, refl, sym, ap, ◌∙◌}
 use native.Mathlib.Omega.{arith}
 use borrow.Author.Tests.{le-leb, lt-leb, leb-true}
 use lib.Dec.{leb, eqb}
-use lib.ListN.{length, get_or, take, drop, drop_of_length-le}
-use lib.Seq.{drop-cons, length-take-le}
+use lib.ListN.{length, get_or, take}
+use Rattle.std.proofs.lemmas.Bool.{and_parts}
+use Rattle.std.specs.List.{list_all, zip}
 use Rattle.format.specs.Record.{Container}
 use Rattle.record_numbers.specs.ToNumbers.{head_numbers, directory_numbers, runtime_numbers, task_count_numbers, type_count_numbers, debug_count_numbers, lookup_numbers}
 use Rattle.record_numbers.specs.FromNumbers.{number_count, most1, most2, most4, head_most, directory_most, runtime_most, task_count_most, type_count_most, debug_count_most, most_count, most_with, most_numbers, most_of_fields, fits, types_flag_at, debug_flag_at, number_at, record_by, record_of_first, record_of_numbers}
 use Rattle.record_numbers.specs.Answers.{AllAtMost, fitting_of}
 use Rattle.record_numbers.specs.Laws.{Fits}
-
-both : (a b : Bool) → (a && b) ≡ true → (a ≡ true) × (b ≡ true)
-both true b e = (refl, e)
-both false b e = let q : ◌≡◌ {A = ℕ} 0 1 = cc in absurd (omega arith)
 
 -- too few numbers; a number that is too large
 pub too_short : (ms ns : List ℕ) → length ns < length ms → fits ms ns ≡ false
@@ -42,8 +37,8 @@ fits_more [] bs ns p q = refl
 fits_more (c ∷ cs) [] ns p q = let z : ◌≡◌ {A = ℕ} 0 1 = cc in absurd (omega arith)
 fits_more (c ∷ cs) (b ∷ bs) [] p q = let z : ◌≡◌ {A = ℕ} 0 1 = cc in absurd (omega arith)
 fits_more (c ∷ cs) (b ∷ bs) (n ∷ ns) p q =
-    let p' = both (leb b c) (fits cs bs) p in
-    let q' = both (leb n b) (fits bs ns) q in
+    let p' = and_parts (leb b c) (fits cs bs) p in
+    let q' = and_parts (leb n b) (fits bs ns) q in
     rw (le-leb n c (omega (arith, leb-true b c p'.0, leb-true n b q'.0)), fits_more cs bs ns p'.1 q'.1)
 
 -- what each number can be by the flags is at most what its field can hold
@@ -66,8 +61,8 @@ pub fit_at : (ms ns : List ℕ) (k : ℕ) → fits ms ns ≡ true → k < length
 unfolding fits
 fit_at [] ns k h g = absurd (omega arith)
 fit_at (m ∷ ms) [] k h g = let z : ◌≡◌ {A = ℕ} 0 1 = cc in absurd (omega arith)
-fit_at (m ∷ ms) (n ∷ ns) zero h g = omega (arith, leb-true n m (both (leb n m) (fits ms ns) h).0)
-fit_at (m ∷ ms) (n ∷ ns) (suc k) h g = fit_at ms ns k (both (leb n m) (fits ms ns) h).1 (omega arith)
+fit_at (m ∷ ms) (n ∷ ns) zero h g = omega (arith, leb-true n m (and_parts (leb n m) (fits ms ns) h).0)
+fit_at (m ∷ ms) (n ∷ ns) (suc k) h g = fit_at ms ns k (and_parts (leb n m) (fits ms ns) h).1 (omega arith)
 
 -- the same of fields of 1, 2 and 4 bytes
 pub at_most_1 : (ns : List ℕ) (k : ℕ) → fits most_of_fields ns ≡ true → get_or most_of_fields k 0 ≤ most1 → k < 44 → get_or ns k 0 ≤ most1
@@ -79,14 +74,13 @@ at_most_2 ns k h g e = omega (arith, fit_at most_of_fields ns k h e)
 pub at_most_4 : (ns : List ℕ) (k : ℕ) → fits most_of_fields ns ≡ true → get_or most_of_fields k 0 ≤ most4 → k < 44 → get_or ns k 0 ≤ most4
 at_most_4 ns k h g e = omega (arith, fit_at most_of_fields ns k h e)
 
--- number by number: one more that fits; all that there are
-pub fits-step : (ms ns : List ℕ) (i : ℕ) → i < length ms → i < length ns → get_or ns i 0 ≤ get_or ms i 0 → fits (drop i ms) (drop i ns) ≡ fits (drop (i + 1) ms) (drop (i + 1) ns)
+-- number by number, beside its bound
+pub fits-pairs : (ms ns : List ℕ) → length ms ≤ length ns → list_all (λ (p : ℕ × ℕ). leb p.0 p.1) (zip ns ms) ≡ fits ms ns
 unfolding fits
-fits-step ms ns i h g e = rw (add-one, drop-cons ms i 0 h, drop-cons ns i 0 g, le-leb (get_or ns i 0) (get_or ms i 0) e)
-
-pub fits-end : (ms ns : List ℕ) (i : ℕ) → length ms ≤ i → fits (drop i ms) (drop i ns) ≡ true
-unfolding fits
-fits-end ms ns i h = rw (drop_of_length-le ms h)
+fits-pairs [] [] h = refl
+fits-pairs [] (n ∷ ns) h = refl
+fits-pairs (m ∷ ms) [] h = absurd (omega arith)
+fits-pairs (m ∷ ms) (n ∷ ns) h = ap (λ (b : Bool). leb n m && b) (fits-pairs ms ns (omega arith))
 
 -- numbers by their bounds
 pub at_most : (ms ns : List ℕ) → AllAtMost ms ns → fits ms ns ≡ true
@@ -101,13 +95,6 @@ join [] [] ms' ns' h g = g
 join [] (n ∷ ns) ms' ns' h g = absurd h
 join (m ∷ ms) [] ms' ns' h g = absurd h
 join (m ∷ ms) (n ∷ ns) ms' ns' h g = (h.0, join ms ns ms' ns' h.1 g)
-
--- a record without types or debug
-pub no-types-fit : AllAtMost (type_count_most most2) (type_count_numbers none)
-no-types-fit = (omega arith, (omega arith, (omega arith, (omega arith, tt))))
-
-pub no-debug-fits : AllAtMost (debug_count_most most2) (debug_count_numbers none)
-no-debug-fits = (omega arith, (omega arith, (omega arith, (omega arith, (omega arith, (omega arith, (omega arith, tt)))))))
 
 -- the numbers of a record, part by part
 module _ (r : Container) where

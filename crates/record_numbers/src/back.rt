@@ -15,6 +15,7 @@ const MOST_2: u64 = 65535;
 const MOST_4: u64 = 4294967295;
 
 // What each number can be at most, whatever the flags are.
+// Kept: by place, as the numbers that C lends.
 const MOST_OF_FIELDS: [u64; RECORD_NUMBERS] = [
     0, MOST_2, MOST_1, MOST_1, MOST_4, MOST_4, MOST_4, MOST_4, MOST_4, MOST_4, MOST_4, MOST_4,
     MOST_4, MOST_4, MOST_4, MOST_4, MOST_4, MOST_4, MOST_2, MOST_2, MOST_2, MOST_4, MOST_2, MOST_4,
@@ -22,6 +23,7 @@ const MOST_OF_FIELDS: [u64; RECORD_NUMBERS] = [
     MOST_2, 1, MOST_2, MOST_2, MOST_2, MOST_2, MOST_2, MOST_2,
 ];
 
+// Kept: a flag is a number here, since C may lend any.
 fn most_count(flag: u64) -> u64
     ensures { result ≡ most_count flag }
 {
@@ -42,12 +44,7 @@ fn most_numbers(types: u64, debug: u64) -> [u64; RECORD_NUMBERS]
 fn all_fit(most: &[u64; RECORD_NUMBERS], numbers: &[u64; RECORD_NUMBERS]) -> bool
     ensures { result ≡ fits most.now numbers.now }
 {
-    for i in 0..RECORD_NUMBERS {
-        if numbers[i] > most[i] {
-            return false;
-        }
-    }
-    true
+    numbers.iter().zip(most).all(|(n, most)| n <= most)
 }
 
 // These numbers, where they are those of a record.

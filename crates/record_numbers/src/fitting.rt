@@ -1,4 +1,5 @@
 // Numbers that fit the fields of a record.
+// Kept: each field by its number's place, since fields of three widths are cast; a table of places would be no plainer.
 ghost use Rattle.std.specs.Prelude.{◌≡◌, ◌≤◌, true};
 ghost use Rattle.base.specs.Section.{place_in};
 ghost use Rattle.debug_tables.specs.Answers.{maybe_debug};
@@ -107,10 +108,7 @@ impl Fitting {
     fn type_counts(self) -> Option<TypeCounts>
         ensures { maybe_types result ≡ type_counts_by (number_at self.n) }
     {
-        if self.n[TYPES_FLAG] == 0 {
-            return None;
-        }
-        Some(TypeCounts {
+        (self.n[TYPES_FLAG] != 0).then_some(TypeCounts {
             fb_types: self.n[33] as u16,
             arrays: self.n[34] as u16,
             user_fbs: self.n[35] as u16,
@@ -121,10 +119,7 @@ impl Fitting {
     fn debug_counts(self) -> Option<DebugCounts>
         ensures { maybe_debug result ≡ debug_counts_by (number_at self.n) }
     {
-        if self.n[DEBUG_FLAG] == 0 {
-            return None;
-        }
-        Some(DebugCounts {
+        (self.n[DEBUG_FLAG] != 0).then_some(DebugCounts {
             lines: self.n[38] as u16,
             variables: self.n[39] as u16,
             functions: self.n[40] as u16,

@@ -2,22 +2,15 @@
 // its length of two bytes, low byte first; a line with a full stop closes each listing.
 #![tactic(auto)]
 
-ghost use Rattle.std.specs.Prelude.{◌<◌};
-
 use file_listing::{page, put_on_page};
 use programs::{first, read_full, write};
 
 // More than the files have.
 const ROOM: usize = 262144;
 
+// Kept: the room is made by a function, since the check of a function that has so long an array in it runs out of stack.
 fn room() -> [u8; ROOM] {
     [0; ROOM]
-}
-
-fn wide(b: u8) -> usize
-    ensures { result < 256 }
-{
-    b as usize
 }
 
 fn list(rt: &impl Print, file: &[u8]) {
@@ -28,19 +21,14 @@ fn list(rt: &impl Print, file: &[u8]) {
 }
 
 fn replay(rt: &impl Print, files: &[u8]) {
-    let mut at = 0;
-    while at < files.len() {
-        if files.len() - at < 2 {
+    let mut rest = files;
+    while let Some((length, behind)) = rest.split_first_chunk::<2>() {
+        let Some((file, more)) = behind.split_at_checked(u16::from_le_bytes(*length) as usize)
+        else {
             return;
-        }
-        let size = wide(files[at]) + 256 * wide(files[at + 1]);
-        let start = at + 2;
-        if files.len() - start < size {
-            return;
-        }
-        let end = start + size;
-        list(rt, &files[start..end]);
-        at = end;
+        };
+        list(rt, file);
+        rest = more;
     }
 }
 

@@ -12,7 +12,6 @@ use Rattle.reading.specs.Reader.{fault, got, ◌>>◌, give, check}
 use Rattle.reading.specs.Answer.{refused, found, ◌>>◌ as ◌then◌, need}
 use Rattle.reading.proofs.Le.{Bytes}
 use Rattle.reading.proofs.Reading.{number_at, bytes-at}
-use Rattle.reading.proofs.Width.{Width, Needs, Fixed, needs-none, needs-bind, width-check, width-bind, width-number, fixed-give, fixed-bind, fixed-bytes, fixed_number, fixed-width}
 use Rattle.format.specs.Faults.{invalid_task_type}
 use Rattle.format.specs.Tasks.{Task, task, program}
 use Rattle.format.proofs.Answers.{never}
@@ -23,34 +22,6 @@ use Rattle.base.proofs.Bytes.{words-at}
 use Rattle.task_table.specs.Lookups.{task_entry_size, program_instance_entry_size}
 
 -- Tasks
-
-pub task-needs : Needs task_entry_size task
-unfolding task
-task-needs =
-    needs-bind (fixed_number 2) λ i.
-    needs-bind (fixed_number 2) λ p.
-    needs-bind (fixed_number 1) λ k.
-    needs-bind (fixed_number 1) λ f.
-    needs-bind (fixed_number 8) λ n.
-    needs-bind (fixed_number 2) λ v.
-    needs-bind (fixed_number 8) λ w.
-    needs-bind (fixed_number 2) λ m.
-    needs-bind (fixed_number 2) λ o.
-    needs-bind (fixed-bytes 4) λ r. needs-none _
-
-pub task-width : Width task_entry_size task
-unfolding task
-task-width =
-    width-bind (width-number 2) λ i.
-    width-bind (width-number 2) λ p.
-    width-bind (width-number 1) λ k.
-    width-bind (width-number 1) λ f.
-    width-bind (width-number 8) λ n.
-    width-bind (width-number 2) λ v.
-    width-bind (width-number 8) λ w.
-    width-bind (width-number 2) λ m.
-    width-bind (width-number 2) λ o.
-    width-bind (fixed-width (fixed-bytes 4)) λ r. width-check (leb k 2) (invalid_task_type k) _
 
 -- the fields of the task at a place
 unfoldable pub fields_at : List ℕ → ℕ → Task
@@ -117,18 +88,6 @@ type-known v n e = go (leb v 2) e
     go false e = never (sym e)
 
 -- Program instances
-
-pub program-fixed : Fixed program_instance_entry_size program
-unfolding program
-program-fixed =
-    fixed-bind (fixed_number 2) λ i.
-    fixed-bind (fixed_number 2) λ t.
-    fixed-bind (fixed_number 2) λ e.
-    fixed-bind (fixed_number 2) λ v.
-    fixed-bind (fixed_number 2) λ n.
-    fixed-bind (fixed_number 2) λ f.
-    fixed-bind (fixed_number 2) λ m.
-    fixed-bind (fixed_number 2) λ u. fixed-give _
 
 pub program-whole : (s : List ℕ) (at : ℕ) → at + program_instance_entry_size ≤ length s → program (drop at s)
     ≡ got

@@ -1,19 +1,19 @@
 -- The section from its header and its two tables, and each answer from what the section's reader answers.
 use mathlib.Core.Path.{◌≡◌, refl, sym, ap, subst, ◌∙◌}
 use mathlib.Core.List.{List}
-use Prim.Native.Nat.{ℕ, ◌+◌, ◌*◌, ◌-◌, ◌≤◌, ◌<◌}
+use Prim.Native.Nat.{ℕ, ◌+◌, ◌*◌, ◌≤◌}
 use native.Mathlib.Omega.{arith}
 use lib.ListN.{length, drop, length-drop}
 use lib.Seq.{drop-drop}
-use Rattle.reading.specs.Fault.{Fault, short_input}
+use Rattle.reading.specs.Fault.{Fault}
 use Rattle.reading.specs.Numbers.{le_at}
 use Rattle.reading.specs.Reader.{Read, fault, got, next, u16, give, many}
-use Rattle.reading.specs.Answer.{Got, refused, found, ◌>>=◌, item_of}
-use Rattle.reading.specs.Places.{step_at, Step, on_to, Goes, Holds, GivesFrom}
+use Rattle.reading.specs.Answer.{Got, refused, found, ◌>>=◌, item_of, indexed}
+use Rattle.reading.specs.Places.{on_to, stops_by, left_of, Goes, Holds, GivesFrom}
 use Rattle.reading.specs.declared.Table.{Table}
 use Rattle.reading.proofs.Reading.{both, number_at}
-use Rattle.reading.proofs.Width.{Needs, width-number, needs-none, needs-bind, fixed_number, fixed-many, fixed-at, needs-at, fixed-width}
-use Rattle.reading.proofs.Tables.{answer_by, many-length, holds_at, reaches, holds-found, holds_fits, holds-out}
+use Rattle.reading.proofs.Width.{Needs, width-number, needs-none, needs-bind, fixed_number}
+use Rattle.reading.proofs.Tables.{many-length, holds_at, reaches}
 use Rattle.reading.proofs.Left.{stays-local, walk-gives}
 use Rattle.format.specs.Faults.{no_entry}
 use Rattle.format.specs.Parts.{Place, cut}
@@ -22,10 +22,9 @@ use Rattle.format.specs.Record.{TaskCounts, task_counts}
 use Rattle.format.specs.Lookups.{read_at}
 use Rattle.format.proofs.Answers.{never, same-found, refused-then, item-got}
 use Rattle.base.proofs.FileWalks.{opened, walk-gives-from}
-use Rattle.task_table.specs.Lookups.{task_table_header_size, task_entry_size, program_instance_entry_size, task_counts_inside, task_entries, program_entries, task_inside, program_inside, tasks_at, programs_at, next_task_at, next_program_at}
+use Rattle.task_table.specs.Lookups.{task_table_header_size, task_entry_size, task_counts_inside, task_entries, program_entries, task_inside, program_inside, tasks_at, programs_at, next_task_at, next_program_at}
 use Rattle.task_table.specs.Laws.{Laws}
-use Rattle.task_table.proofs.Entries.{task-width, program-fixed}
-use Rattle.reading.proofs.Given.{reads_at}
+use Rattle.format.proofs.Widths.{task-width}
 use Rattle.format.proofs.Readers.{local-task, local-program}
 
 -- Reading the section
@@ -46,16 +45,14 @@ module _ (s : List ℕ) (n m g : ℕ) (h : task_table_header_size ≤ length s) 
 
   -- the tasks reach to p
   module _ (p : ℕ) (w : Goes (many n task) s task_table_header_size (on_to p)) where
-    pub table-short : length s - p < program_instance_entry_size * m → refused short_input ≡ task_counts_inside s
-    table-short l = rw (table-head, w.1.1, needs-at (fixed-many m program-fixed).short s p l)
+    pub table-short : (f : Fault) → Goes (many m program) s p (stops_by f) → refused f ≡ task_counts_inside s
+    table-short f e = rw (table-head, w.1.1, e)
 
-    pub table-whole : program_instance_entry_size * m ≤ length s - p → found (record { shared_globals = g; tasks = n; programs = m }) ≡ task_counts_inside s
-    table-whole l =
-        let room = w.0 in
-        let q = fixed-at (fixed-many m program-fixed) s p (omega arith) in
+    pub table-whole : (k : ℕ) → Goes (many m program) s p (on_to k) → found (record { shared_globals = g; tasks = n; programs = m }) ≡ task_counts_inside s
+    table-whole k q =
         let a = many-length task n (drop task_table_header_size s) w.1.0 (drop p s) w.1.1 in
-        let b = many-length program m (drop p s) q.0 (drop (p + program_instance_entry_size * m) s) q.1 in
-        rw (table-head, w.1.1, q.1, a, b)
+        let b = many-length program m (drop p s) q.1.0 (drop k s) q.1.1 in
+        rw (table-head, w.1.1, q.1.1, a, b)
 
 -- The tables of a section that reads
 
@@ -125,28 +122,13 @@ module _ (s : List ℕ) (c : TaskCounts) (e : found c ≡ task_counts_inside s) 
   pub start : (g : TaskCounts → Table) → found (g c) ≡ (item_of (task_table s) >>= λ t. found (g (task_counts t)))
   start g = rw (counted.reads, counted.counts)
 
+  -- the entry at an index
   module _ (k : ℕ) where
-    pub task-out : c.tasks ≤ k → refused no_entry ≡ task_inside s k
-    task-out l = rw counted.reads (sym (holds-out task s (task_entries c) counted.table.tasks counted.tasks k no_entry l))
+    pub task-is : (x : Got Task) → ((xs : List Task) (rest : List ℕ) → left_of task s (task_entries c) ≡ got xs rest → x ≡ indexed no_entry xs k) → x ≡ task_inside s k
+    task-is x h = rw counted.reads (h counted.table.tasks counted.tasks.rest counted.tasks.reads)
 
-    pub program-out : c.programs ≤ k → refused no_entry ≡ program_inside s k
-    program-out l = rw counted.reads (sym (holds-out program s (program_entries c) counted.table.programs counted.programs k no_entry l))
-
-    -- the task at an index stands behind the header and those before it
-    module _ (l : k < c.tasks) where
-      pub task-fits : task_table_header_size + task_entry_size * k + task_entry_size ≤ length s
-      task-fits = holds_fits task s (task_entries c) counted.table.tasks counted.tasks task-width (omega arith) k l
-
-      pub task-found : (x : Step Task) → x ≡ step_at task s (task_table_header_size + task_entry_size * k) → answer_by x ≡ task_inside s k
-      task-found x e = rw counted.reads (holds-found task s (task_entries c) counted.table.tasks counted.tasks task-width k l no_entry refl (reads_at (stays-local s local-task) _ e))
-
-    -- the program at an index stands behind the tasks and the programs before it
-    module _ (l : k < c.programs) where
-      pub program-fits : task_table_header_size + task_entry_size * c.tasks + program_instance_entry_size * k + program_instance_entry_size ≤ length s
-      program-fits = holds_fits program s (program_entries c) counted.table.programs counted.programs (fixed-width program-fixed) (omega arith) k l
-
-      pub program-found : (x : Step Program) → x ≡ step_at program s ((program_entries c).at + program_instance_entry_size * k) → answer_by x ≡ program_inside s k
-      program-found x e = rw counted.reads (holds-found program s (program_entries c) counted.table.programs counted.programs (fixed-width program-fixed) k l no_entry refl (reads_at (stays-local s local-program) _ e))
+    pub program-is : (x : Got Program) → ((xs : List Program) (rest : List ℕ) → left_of program s (program_entries c) ≡ got xs rest → x ≡ indexed no_entry xs k) → x ≡ program_inside s k
+    program-is x h = rw counted.reads (h counted.table.programs counted.programs.rest counted.programs.reads)
 
 -- in a file
 module _ (f : List ℕ) (p : Place) (t : TaskTable) (e : read_at f p task_table ≡ found t) where

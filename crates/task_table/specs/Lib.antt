@@ -1,4 +1,3 @@
 pub mod Answers
 pub mod Lookups
 pub mod Laws
-pub mod Stays

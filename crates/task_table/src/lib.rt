@@ -1,10 +1,16 @@
 // The task section: a header of two counts and the shared globals size, then the tasks, then the program instances.
+// Kept: one function for each table, which users call by these names; each is one call of a generic function.
 #![tactic(auto)]
 
 ghost use Rattle.std.specs.Prelude.{◌≡◌, ◌+◌, ◌≤◌, length, drop};
 ghost use Rattle.reading.specs.Numbers.{le_at};
+ghost use Rattle.std.proofs.Common.{rules};
 ghost use Rattle.reading.specs.Reader.{got};
+ghost use Rattle.reading.proofs.Left.{stays-local};
+ghost use Rattle.reading.proofs.Width.{fixed-width};
 ghost use Rattle.format.specs.Tasks.{Task, task, Program, program};
+ghost use Rattle.format.proofs.Readers.{local-task, local-program};
+ghost use Rattle.format.proofs.Widths.{task-width, program-fixed};
 ghost use Rattle.base.specs.Answers.{as_it_is, got_from, next_from};
 ghost use Rattle.base.specs.Error.{fault_of};
 ghost use Rattle.base.specs.Small.{task_type_number};
@@ -12,10 +18,9 @@ ghost use Rattle.base.specs.Section.{place_in};
 ghost use Rattle.task_table.specs.Answers.{task_in, program_in, task_counts_in};
 ghost use Rattle.task_table.specs.Lookups.{task_entry_size, program_instance_entry_size, task_counts_inside, task_entries, program_entries, task_inside, program_inside, task_at, program_at, tasks_at, programs_at, next_task_at, next_program_at};
 ghost use Rattle.task_table.specs.Laws.{Laws};
-ghost use Rattle.task_table.specs.Stays.{task_stays, program_stays};
 
 use base::cut::Cut;
-use base::entry::{Entry, skip, step};
+use base::entry::{Entry, OneWidth, Plain, find_by_width, pass, skip, step};
 use base::error::ContainerError;
 use base::id_types::{FunctionId, InstanceId, TaskId, VarIndex};
 use base::section::{Section, section_cut};
@@ -95,7 +100,7 @@ impl Entry for TaskEntry {
 
     ghost reader = { λ _. task };
 
-    ghost stays = { λ _. task_stays };
+    ghost stays = { λ _ s. stays-local s local-task };
 
     // All its bytes must be there before its type is checked.
     fn read(cut: Cut, at: usize) -> Result<(Self, usize), ContainerError> {
@@ -105,6 +110,14 @@ impl Entry for TaskEntry {
         let task_type = TaskType::try_from(u8_at(cut.bytes, at + 4))?;
         Ok((task_at(cut.bytes, at, task_type), at + TASK_ENTRY_SIZE))
     }
+}
+
+impl OneWidth for TaskEntry {
+    const WIDTH: usize = TASK_ENTRY_SIZE;
+
+    ghost WIDTH = { task_entry_size };
+
+    ghost width = { λ _. (Prim.search rules, task-width) };
 }
 
 // The program instance at the place `at`.
@@ -135,7 +148,7 @@ impl Entry for ProgramInstanceEntry {
 
     ghost reader = { λ _. program };
 
-    ghost stays = { λ _. program_stays };
+    ghost stays = { λ _ s. stays-local s local-program };
 
     fn read(cut: Cut, at: usize) -> Result<(Self, usize), ContainerError> {
         if cut.left(at) < PROGRAM_INSTANCE_ENTRY_SIZE {
@@ -143,6 +156,18 @@ impl Entry for ProgramInstanceEntry {
         }
         Ok((program_at(cut.bytes, at), at + PROGRAM_INSTANCE_ENTRY_SIZE))
     }
+}
+
+impl OneWidth for ProgramInstanceEntry {
+    const WIDTH: usize = PROGRAM_INSTANCE_ENTRY_SIZE;
+
+    ghost WIDTH = { program_instance_entry_size };
+
+    ghost width = { λ _. (Prim.search rules, fixed-width program-fixed) };
+}
+
+impl Plain for ProgramInstanceEntry {
+    ghost fixed = { λ _. program-fixed };
 }
 
 // The section's reader. Each task is checked; no program can be refused, so only their bytes must be present.
@@ -156,9 +181,7 @@ pub fn read_from(cut: Cut) -> Result<TaskCounts, ContainerError>
     let programs = u16_at(cut.bytes, 2);
     let shared_globals_size = u16_at(cut.bytes, 4);
     let p = skip::<TaskEntry>(cut, TASK_TABLE_HEADER_SIZE, tasks as usize)?;
-    if cut.left(p) < PROGRAM_INSTANCE_ENTRY_SIZE * programs as usize {
-        return Err(ContainerError::ShortInput);
-    }
+    pass::<ProgramInstanceEntry>(cut, p, programs as usize).ok_or(ContainerError::ShortInput)?;
     Ok(TaskCounts {
         shared_globals_size,
         tasks,
@@ -190,24 +213,16 @@ fn program_entries(counts: TaskCounts) -> Table
 fn find_task(cut: Cut, index: u16) -> Result<TaskEntry, ContainerError>
     ensures { got_from task_in result ≡ task_inside cut.entry.bytes.now index }
 {
-    let counts = read_from(cut)?;
-    if counts.tasks <= index {
-        return Err(ContainerError::NoEntry);
-    }
-    let at = TASK_TABLE_HEADER_SIZE + TASK_ENTRY_SIZE * index as usize;
-    Ok(TaskEntry::read(cut, at)?.0)
+    let tasks = task_entries(read_from(cut)?);
+    find_by_width(cut, tasks, index)?.ok_or(ContainerError::NoEntry)
 }
 
 // The program instance at an index of the section.
 fn find_program(cut: Cut, index: u16) -> Result<ProgramInstanceEntry, ContainerError>
     ensures { got_from program_in result ≡ program_inside cut.entry.bytes.now index }
 {
-    let counts = read_from(cut)?;
-    if counts.programs <= index {
-        return Err(ContainerError::NoEntry);
-    }
-    let at = program_entries(counts).at + PROGRAM_INSTANCE_ENTRY_SIZE * index as usize;
-    Ok(ProgramInstanceEntry::read(cut, at)?.0)
+    let programs = program_entries(read_from(cut)?);
+    find_by_width(cut, programs, index)?.ok_or(ContainerError::NoEntry)
 }
 
 // The task at an index.

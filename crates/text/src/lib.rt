@@ -1,14 +1,16 @@
 // Text in a buffer that the caller lends: numbers in decimal, bytes in hexadecimal, lines of them. A line that fits is written at the place `at`,
 // and the place behind it is returned; a line that does not fit leaves the buffer unchanged.
+// Kept: no `Display`, since `write!` would write a part of a line that does not fit.
 #![tactic(auto)]
 
-ghost use Rattle.std.specs.Prelude.{◌+◌, ◌*◌, ◌/◌, ◌%◌, ◌<◌, ◌≤◌, ◌≡◌, [], ◌∷◌, ◌++◌, leb, length, MatchOption};
+ghost use Rattle.std.specs.Prelude.{◌+◌, ◌*◌, ◌<◌, ◌≤◌, ◌≡◌, ◌++◌, leb, length, MatchOption};
 ghost use Rattle.lent.specs.Output.{Wrote, Puts};
-ghost use Rattle.text.specs.Text.{ascii, decimal, numbers, hex_digit, hexes, hex_or_dash, ended, line, dash_line, bytes_line};
+ghost use Rattle.text.specs.Text.{ascii, decimal, numbers, hexes, hex_or_dash, ended, line, dash_line, bytes_line};
 ghost use Rattle.text.specs.Laws.{Laws};
 
+use hex::encode_to_slice;
 use itoa::Buffer;
-use lent::{put, put_byte};
+use lent::put;
 
 // A space and the digits of the largest u64.
 const MOST_OF_NUMBER: usize = 21;
@@ -28,12 +30,11 @@ fn put_number(out: &mut [u8], at: usize, n: u64) -> usize
     requires { at + length (ascii " " ++ decimal n) ≤ length out.old }
     ensures { Wrote out.old at (ascii " " ++ decimal n) out.new result }
 {
-    let next = put_byte(out, at, b' ');
+    let next = put(out, at, b" ");
     put_decimal(out, next, n)
 }
 
 // A space and a number, for each.
-// Kept: a loop here and one in `put_hex`. A common one would take a closure, and need its contract beside the loop's.
 fn put_numbers(out: &mut [u8], at: usize, ns: &[u64]) -> usize
     requires { at + length (numbers ns.now) ≤ length out.old }
     ensures { Wrote out.old at (numbers ns.now) out.new result }
@@ -45,34 +46,15 @@ fn put_numbers(out: &mut [u8], at: usize, ns: &[u64]) -> usize
     next
 }
 
-fn hex_digit(digit: u8) -> u8
-    requires { digit < 16 }
-    ensures { result ≡ hex_digit digit }
-{
-    if digit < 10 {
-        b'0' + digit
-    } else {
-        b'a' + (digit - 10)
-    }
-}
-
-fn put_hex_byte(out: &mut [u8], at: usize, byte: u8) -> usize
-    requires { at + 2 ≤ length out.old }
-    ensures { Wrote out.old at (hex_digit (byte / 16) ∷ hex_digit (byte % 16) ∷ []) out.new result }
-{
-    put(out, at, &[hex_digit(byte / 16), hex_digit(byte % 16)])
-}
-
-// Bytes in hexadecimal, two digits for each.
+// Bytes in hexadecimal, two digits for each: `encode_to_slice` has just the room that it asks for.
+#[tactic(auto, using(crate::proofs::Parts::hexes_length))]
 fn put_hex(out: &mut [u8], at: usize, bytes: &[u8]) -> usize
     requires { at + length (hexes bytes.now) ≤ length out.old }
     ensures { Wrote out.old at (hexes bytes.now) out.new result }
 {
-    let mut next = at;
-    for &byte in bytes {
-        next = put_hex_byte(out, next, byte);
-    }
-    next
+    let end = at + 2 * bytes.len();
+    encode_to_slice(bytes, &mut out[at..end]).ok();
+    end
 }
 
 // Bytes in hexadecimal, or a dash if there are none.
@@ -82,7 +64,7 @@ fn put_hex_or_dash(out: &mut [u8], at: usize, bytes: &[u8]) -> usize
     ensures { Wrote out.old at (hex_or_dash bytes.now) out.new result }
 {
     if bytes.is_empty() {
-        return put_byte(out, at, b'-');
+        return put(out, at, b"-");
     }
     put_hex(out, at, bytes)
 }
@@ -193,7 +175,7 @@ pub fn put_bytes_line(
     }
     let next = put_ended(out, at, word, ns, b" ");
     let next = put_hex_or_dash(out, next, bytes);
-    Some(put_byte(out, next, b'\n'))
+    Some(put(out, next, b"\n"))
 }
 
 // The claims of `specs/Laws.antt` hold. Empty body: the contract makes the checker prove them.

@@ -2,7 +2,7 @@
 use mathlib.Core.Path.{◌≡◌, refl, sym, ◌∙◌}
 use mathlib.Core.Bool.{Bool, true, false}
 use mathlib.Core.List.{List}
-use Prim.Native.Nat.{ℕ, ◌+◌, ◌*◌, ◌-◌, ◌≤◌, ◌<◌}
+use Prim.Native.Nat.{ℕ, ◌+◌, ◌-◌, ◌≤◌, ◌<◌}
 use native.Mathlib.Omega.{arith}
 use lib.Dec.{leb}
 use lib.ListN.{length, drop, length-drop}
@@ -13,8 +13,8 @@ use Rattle.reading.specs.Reader.{fault, got, Reader, next, ◌>>◌, give, check
 use Rattle.reading.specs.Answer.{refused, found, ◌>>◌ as ◌then◌, need, item_of}
 use Rattle.reading.specs.Places.{Step, stops, item, Reads, step_at, Way, stops_by, on_to, Goes, way_at}
 use Rattle.reading.proofs.Reading.{then-then, number_at}
-use Rattle.reading.proofs.Width.{Width, Needs, Fixed, needs-none, needs-bind, width-check, width-bind, width-number, fixed-give, fixed-bind, fixed_number, fixed-many, fixed-at, needs-at}
-use Rattle.reading.proofs.Left.{Stays, stays-many}
+use Rattle.reading.proofs.Width.{Needs, needs-none, needs-bind, fixed_number}
+use Rattle.reading.proofs.Left.{Stays, stays-many, stays-local}
 use Rattle.reading.proofs.Given.{step-at, goes_at}
 use Rattle.reading.proofs.Passing.{counted-short, counted-as}
 use Rattle.reading.proofs.Tables.{many-length}
@@ -25,20 +25,9 @@ use Rattle.format.proofs.Answers.{never}
 use Rattle.base.specs.Small.{field_type_of}
 use Rattle.type_entries.specs.Answers.{fb_type_head, stride_checked, table_at}
 use Rattle.type_entries.specs.Starts.{count_size, field_entry_size, fb_type_head_size, array_descriptor_size, user_fb_descriptor_size}
-use Rattle.type_entries.specs.Stays.{field_stays}
+use Rattle.format.proofs.Readers.{local-field}
 
 -- Widths
-
-pub field-needs : Needs field_entry_size field
-unfolding field
-field-needs = needs-bind (fixed_number 1) λ k. needs-bind (fixed_number 1) λ r. needs-bind (fixed_number 2) λ e. needs-none _
-
-pub field-width : Width field_entry_size field
-unfolding field
-field-width =
-    width-bind (width-number 1) λ k.
-    width-bind (width-number 1) λ r.
-    width-bind (width-number 2) λ e. width-check (leb k 10) (invalid_field_type k) (record { kind = k; extra = e })
 
 fb-type-needs : Needs fb_type_head_size fb_type
 unfolding fb_type
@@ -46,34 +35,6 @@ fb-type-needs = needs-bind (fixed_number 2) λ i. needs-bind (fixed_number 1) λ
 
 pub head-needs : Needs fb_type_head_size fb_type_head
 head-needs x h = rw (fb-type-needs x h)
-
-pub array-needs : Needs array_descriptor_size array
-unfolding array
-array-needs =
-    needs-bind (fixed_number 1) λ k.
-    needs-bind (fixed_number 1) λ r.
-    needs-bind (fixed_number 4) λ n.
-    needs-bind (fixed_number 2) λ e.
-    needs-bind (fixed_number 4) λ t. needs-none _
-
-pub array-width : Width array_descriptor_size array
-unfolding array
-array-width =
-    width-bind (width-number 1) λ k.
-    width-bind (width-number 1) λ r.
-    width-bind (width-number 4) λ n.
-    width-bind (width-number 2) λ e.
-    width-bind (width-number 4) λ t.
-    width-check (stride_fits k e t) (invalid_array_stride k t) (record { kind = k; elements = n; extra = e; stride = t })
-
-pub user-fb-fixed : Fixed user_fb_descriptor_size user_fb
-unfolding user_fb
-user-fb-fixed =
-    fixed-bind (fixed_number 2) λ i.
-    fixed-bind (fixed_number 2) λ f.
-    fixed-bind (fixed_number 2) λ o.
-    fixed-bind (fixed_number 1) λ n.
-    fixed-bind (fixed_number 1) λ r. fixed-give _
 
 -- Fields
 
@@ -168,7 +129,7 @@ pub head-walk : (s : List ℕ) (at id n : ℕ) → at + fb_type_head_size ≤ le
     → item_by (record { id = id; field_count = n }) w ≡ step_at fb_type_head s at
 unfolding fb_type
 head-walk s at id n h i k =
-    by-walk (λ c. record { id = id; field_count = c }) field fb_type_head s at (at + fb_type_head_size) n (field_stays s)
+    by-walk (λ c. record { id = id; field_count = c }) field fb_type_head s at (at + fb_type_head_size) n ((stays-local s local-field))
     (rw (
       number_at 2 s at (at + 2) refl (omega arith),
       number_at 1 s (at + 2) (at + 3) (omega arith) (omega arith),
@@ -193,10 +154,8 @@ module _ (s : List ℕ) (at count : ℕ) (h : at + count_size ≤ length s) (n :
   users-some : counted_or_none user_fb (drop at s) ≡ many count user_fb (drop (at + count_size) s)
   users-some = let d = length-drop at s in rw (le-ltb (length (drop at s)) count_size (omega arith)) (counted-as user_fb s at count h n)
 
-  pub users-short : length s - (at + count_size) < user_fb_descriptor_size * count → refused short_input ≡ item_of (table_at at (counted_or_none user_fb) (drop at s))
-  users-short l = rw (users-some, needs-at (fixed-many count user-fb-fixed).short s (at + count_size) l)
+  pub users-short : (f : Fault) → Goes (many count user_fb) s (at + count_size) (stops_by f) → refused f ≡ item_of (table_at at (counted_or_none user_fb) (drop at s))
+  users-short f e = rw (users-some, e)
 
-  pub users-whole : user_fb_descriptor_size * count ≤ length s - (at + count_size) → found (record { at = at + count_size; count = count }) ≡ item_of (table_at at (counted_or_none user_fb) (drop at s))
-  users-whole l =
-      let q = fixed-at (fixed-many count user-fb-fixed) s (at + count_size) (omega arith) in
-      rw (users-some, q.1, many-length user_fb count (drop (at + count_size) s) q.0 (drop (at + count_size + user_fb_descriptor_size * count) s) q.1)
+  pub users-whole : (k : ℕ) → Goes (many count user_fb) s (at + count_size) (on_to k) → found (record { at = at + count_size; count = count }) ≡ item_of (table_at at (counted_or_none user_fb) (drop at s))
+  users-whole k q = rw (users-some, q.1.1, many-length user_fb count (drop (at + count_size) s) q.1.0 (drop k s) q.1.1)

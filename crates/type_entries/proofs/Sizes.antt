@@ -21,7 +21,7 @@ use Rattle.format.proofs.Answers.{never, same-found}
 use Rattle.type_entries.specs.Answers.{fb_type_head}
 use Rattle.type_entries.specs.Starts.{count_size, field_entry_size, fb_type_head_size, array_descriptor_size, fb_type_size, fb_types_size}
 use Rattle.type_entries.specs.Stays.{fb_type_head_stays}
-use Rattle.type_entries.proofs.Entries.{field-width, array-width}
+use Rattle.format.proofs.Widths.{field-width, array-width}
 
 pub arrays-take : Takes (λ xs. count_size + array_descriptor_size * length xs) (counted array)
 arrays-take = takes-counted (λ n. takes-width n array-width)

@@ -25,7 +25,7 @@ use Rattle.format.proofs.Answers.{never, same-found, steps, item-got}
 use Rattle.format.proofs.Readers.{local-fb-type}
 use Rattle.type_entries.specs.Starts.{count_size, array_descriptor_size, fb_types_size, type_starts_of, type_starts_in}
 use Rattle.type_entries.specs.Answers.{fb_type_head, table_at}
-use Rattle.type_entries.specs.Stays.{array_stays}
+use Rattle.format.proofs.Readers.{local-array}
 use Rattle.type_entries.specs.declared.Tables.{Tables}
 use Rattle.type_entries.proofs.Sizes.{fb-types-take, arrays-take}
 
@@ -66,7 +66,7 @@ module _ (s : List ℕ) where
   fb-types-read x e = reads_at (stays-table 0 (stays-local s local-fb-type)) 0 (e ∙ ap (step_given s) (heads-table s))
 
   arrays-read : (a : ℕ) (x : Step Table) → x ≡ step_at (table_at a (counted array)) s a → Reads (table_at a (counted array)) s a x
-  arrays-read a x e = reads_at (stays-table a (array_stays s)) a e
+  arrays-read a x e = reads_at (stays-table a (stays-local s local-array)) a e
 
   pub fb-types-stop : (f : Fault) → stops f ≡ step_at (table_at 0 (counted fb_type_head)) s 0 → refused f ≡ type_starts_in s
   unfolding type_tables

@@ -2,22 +2,12 @@
 use Rattle.std.specs.Prelude.{ℕ, List}
 use Rattle.reading.proofs.Local.{Local, local-give, local-bind}
 use Rattle.reading.proofs.Left.{Stays, stays-local}
-use Rattle.format.specs.Types.{field, array, user_fb}
 use Rattle.format.specs.Lookups.{fb_type_head_of}
-use Rattle.format.proofs.Readers.{local-field, local-fb-type, local-array, local-user-fb}
+use Rattle.format.proofs.Readers.{local-fb-type}
 use Rattle.type_entries.specs.Answers.{fb_type_head}
-
-pub field_stays : (s : List ℕ) → Stays s field
-field_stays s = stays-local s local-field
 
 local-head : Local fb_type_head
 local-head = local-bind local-fb-type λ b. local-give (fb_type_head_of b)
 
 pub fb_type_head_stays : (s : List ℕ) → Stays s fb_type_head
 fb_type_head_stays s = stays-local s local-head
-
-pub array_stays : (s : List ℕ) → Stays s array
-array_stays s = stays-local s local-array
-
-pub user_fb_stays : (s : List ℕ) → Stays s user_fb
-user_fb_stays s = stays-local s local-user-fb

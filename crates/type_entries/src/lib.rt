@@ -2,22 +2,27 @@
 #![tactic(auto)]
 
 ghost use Rattle.std.specs.Prelude.{◌≡◌, ◌+◌, ◌^◌, ◌≤◌, ◌<◌, length, drop, IfOk};
+ghost use Rattle.std.proofs.Common.{rules};
 ghost use Rattle.reading.specs.Reader.{counted, counted_or_none};
 ghost use Rattle.reading.specs.Answer.{item_of};
 ghost use Rattle.reading.specs.Places.{step_at};
+ghost use Rattle.reading.proofs.Left.{stays-local};
+ghost use Rattle.reading.proofs.Width.{fixed-width};
 ghost use Rattle.format.specs.Types.{Field, field, natural_stride, stride_fits, element_char_width, Array, array, UserFb, user_fb};
 ghost use Rattle.format.specs.Lookups.{FbTypeHead, byte_size};
+ghost use Rattle.format.proofs.Readers.{local-field, local-array, local-user-fb};
+ghost use Rattle.format.proofs.Widths.{field-width, array-width, user-fb-fixed};
 ghost use Rattle.base.specs.Answers.{as_it_is, got_from, step_from};
 ghost use Rattle.base.specs.Cut.{place_of};
 ghost use Rattle.base.specs.Error.{fault_of};
 ghost use Rattle.base.specs.Small.{byte_width};
 ghost use Rattle.type_entries.specs.Answers.{field_in, fb_type_head_in, fb_type_head, string_width, array_in, stride_checked, user_fb_in, table_at};
-ghost use Rattle.type_entries.specs.Starts.{fb_type_head_size, head_fields, type_starts_in};
-ghost use Rattle.type_entries.specs.Stays.{field_stays, fb_type_head_stays, array_stays, user_fb_stays};
+ghost use Rattle.type_entries.specs.Starts.{field_entry_size, fb_type_head_size, array_descriptor_size, user_fb_descriptor_size, head_fields, type_starts_in};
+ghost use Rattle.type_entries.specs.Stays.{fb_type_head_stays};
 
 use base::char_width::CharWidth;
 use base::cut::Cut;
-use base::entry::{Entry, skip};
+use base::entry::{Entry, OneWidth, Plain, pass, skip};
 use base::error::ContainerError;
 use base::field_type::FieldType;
 use base::id_types::{FbTypeId, FunctionId};
@@ -161,7 +166,7 @@ impl Entry for FieldEntry {
 
     ghost reader = { λ _. field };
 
-    ghost stays = { λ _. field_stays };
+    ghost stays = { λ _ s. stays-local s local-field };
 
     // All its bytes must be there before its type is checked.
     fn read(cut: Cut, at: usize) -> Result<(Self, usize), ContainerError> {
@@ -180,14 +185,21 @@ impl Entry for FieldEntry {
     }
 }
 
+impl OneWidth for FieldEntry {
+    const WIDTH: usize = FIELD_ENTRY_SIZE;
+
+    ghost WIDTH = { field_entry_size };
+
+    ghost width = { λ _. (Prim.search rules, field-width) };
+}
+
 impl FbTypeDescriptor {
-    // The table of its fields, which stand behind its head at the place `at`.
+    // The table of its fields, which stand behind its head at the place `at`; the promise is for a place in some section.
     pub fn fields(self, at: usize) -> Table
-        requires { at + fb_type_head_size < 2 ^ 64 }
-        ensures { result ≡ head_fields at (fb_type_head_in self) }
+        ensures { at + fb_type_head_size < 2 ^ 64 → result ≡ head_fields at (fb_type_head_in self) }
     {
         Table {
-            at: at + FB_TYPE_HEAD_SIZE,
+            at: at.saturating_add(FB_TYPE_HEAD_SIZE),
             count: self.num_fields as usize,
         }
     }
@@ -232,7 +244,7 @@ impl Entry for ArrayDescriptor {
 
     ghost reader = { λ _. array };
 
-    ghost stays = { λ _. array_stays };
+    ghost stays = { λ _ s. stays-local s local-array };
 
     fn read(cut: Cut, at: usize) -> Result<(Self, usize), ContainerError> {
         if cut.left(at) < ARRAY_DESCRIPTOR_SIZE {
@@ -249,6 +261,14 @@ impl Entry for ArrayDescriptor {
     }
 }
 
+impl OneWidth for ArrayDescriptor {
+    const WIDTH: usize = ARRAY_DESCRIPTOR_SIZE;
+
+    ghost WIDTH = { array_descriptor_size };
+
+    ghost width = { λ _. (Prim.search rules, array-width) };
+}
+
 impl Entry for UserFbDescriptor {
     type Error = ContainerError;
 
@@ -260,7 +280,7 @@ impl Entry for UserFbDescriptor {
 
     ghost reader = { λ _. user_fb };
 
-    ghost stays = { λ _. user_fb_stays };
+    ghost stays = { λ _ s. stays-local s local-user-fb };
 
     fn read(cut: Cut, at: usize) -> Result<(Self, usize), ContainerError> {
         if cut.left(at) < USER_FB_DESCRIPTOR_SIZE {
@@ -274,6 +294,18 @@ impl Entry for UserFbDescriptor {
         };
         Ok((user_fb, at + USER_FB_DESCRIPTOR_SIZE))
     }
+}
+
+impl OneWidth for UserFbDescriptor {
+    const WIDTH: usize = USER_FB_DESCRIPTOR_SIZE;
+
+    ghost WIDTH = { user_fb_descriptor_size };
+
+    ghost width = { λ _. (Prim.search rules, fixed-width user-fb-fixed) };
+}
+
+impl Plain for UserFbDescriptor {
+    ghost fixed = { λ _. user-fb-fixed };
 }
 
 // A table with its count in front, at `at`: where its entries start, and where it ends.
@@ -310,9 +342,7 @@ fn user_fb_table(cut: Cut, at: usize) -> Result<Table, ContainerError>
         });
     }
     let count = u16_at(cut.bytes, at) as usize;
-    if cut.left(first) < USER_FB_DESCRIPTOR_SIZE * count {
-        return Err(ContainerError::ShortInput);
-    }
+    pass::<UserFbDescriptor>(cut, first, count).ok_or(ContainerError::ShortInput)?;
     Ok(Table { at: first, count })
 }
 

@@ -2,64 +2,32 @@
 use mathlib.Core.Path.{◌≡◌, refl, sym, ap, subst, ◌∙◌}
 use mathlib.Core.Bool.{Bool, true, false, cond}
 use mathlib.Core.List.{List, map}
-use Prim.Native.Nat.{ℕ, ◌+◌, ◌*◌, ◌≤◌, ◌<◌}
+use Prim.Native.Nat.{ℕ, ◌+◌, ◌≤◌, ◌<◌}
 use native.Mathlib.Omega.{arith}
 use lib.Dec.{eqb}
 use lib.ListN.{length, take, drop, length-drop}
 use lib.Seq.{drop-drop}
-use Rattle.std.specs.Prelude.{Option, Some, None, Ok, ok_or}
 use Rattle.reading.specs.Fault.{Fault}
-use Rattle.reading.specs.Reader.{Read, fault, got, Reader, next, give, many}
+use Rattle.reading.specs.Reader.{Read, fault, got, next, give, many}
 use Rattle.reading.specs.Answer.{Got, refused, found, ◌>>=◌, item_of, indexed}
-use Rattle.reading.specs.Places.{Step, stops, item, Reads, step_at, Way, stops_by, on_to, Goes, way_at, left_of, Next, ends, faulty, entry, next_of, step_of}
+use Rattle.reading.specs.Places.{stops, item, step_at, Way, stops_by, on_to, Goes, way_at, left_of, Next, ends, faulty, entry, next_of, step_of}
 use Rattle.reading.specs.declared.Table.{Table}
-use Rattle.reading.proofs.Width.{fixed-width}
 use Rattle.reading.proofs.Parts.{same_place}
-use Rattle.reading.proofs.Left.{Stays, stays-many}
+use Rattle.reading.proofs.Left.{stays-many}
 use Rattle.reading.proofs.Given.{reads_at, goes_at}
 use Rattle.reading.proofs.Made.{made-stops, made-gives, many-made}
-use Rattle.reading.proofs.Tables.{At, answer_by, many-take, at_width, index-out, at-picked, at_reads, holds_walked, holds-stops, holds-out}
+use Rattle.reading.proofs.Tables.{At, many-take, at-picked, at_reads, holds_walked, holds-stops, holds-out}
 use Rattle.format.specs.Faults.{no_array, no_entry}
 use Rattle.format.specs.Types.{Field, field, FbType, fb_type, Array, array, UserFb, user_fb, TypeTables, type_tables}
 use Rattle.format.specs.Lookups.{FbTypeHead, fb_type_head_of, fb_type_of, field_of}
 use Rattle.format.proofs.Answers.{same-found, steps, renamed}
-use Rattle.base.specs.Answers.{got_by, found_by}
-use Rattle.type_entries.specs.Starts.{count_size, field_entry_size, fb_type_head_size, array_descriptor_size, user_fb_descriptor_size, fb_types_size, head_fields, fields_start, type_starts_in}
+use Rattle.type_entries.specs.Starts.{count_size, fb_type_head_size, fb_types_size, head_fields, fields_start, type_starts_in}
 use Rattle.type_entries.specs.Answers.{fb_type_head}
 use Rattle.type_entries.specs.Stays.{fb_type_head_stays}
 use Rattle.type_entries.specs.declared.Tables.{Tables}
-use Rattle.type_entries.proofs.Entries.{field-width, array-width, user-fb-fixed}
 use Rattle.type_entries.proofs.Sizes.{fields-left, fb-types-many, fb-type-at}
 use Rattle.type_entries.proofs.Standing.{standing, readable}
 use Rattle.type_section.specs.Lookups.{FbTypeEntry, fb_type_entry, fb_type_of_section, field_of_section, array_of_section, user_fb_of_section, fb_type_step_of, with_fields}
-use Rattle.type_section.specs.Indexing.{OneWidth}
-
--- An entry at an index of a table whose entries have one width
-
-module _ {A : Type 0} (r : Reader A) (s : List ℕ) (t : Table) (k : ℕ) where
-  pub width-out : t.count ≤ k → (xs : List A) (rest : List ℕ) → left_of r s t ≡ got xs rest → (out : Fault) → refused out ≡ indexed out xs k
-  width-out l xs rest e out = sym (index-out r k t.count (drop t.at s) xs rest out l e)
-
-  module _ (w : ℕ) (q : OneWidth w r s t) (l : k < t.count) where
-    there : (xs : List A) (rest : List ℕ) → left_of r s t ≡ got xs rest → At r xs k (drop (t.at + w * k) s)
-    there xs rest e = rw drop-drop at (at_width r q.width k t.count (drop t.at s) xs rest l e)
-
-    pub width-fits : t.at + w * k + w ≤ length s
-    width-fits =
-        let a = there q.entries q.rest q.reads in
-        omega (arith, q.some, (q.width.takes (drop (t.at + w * k) s) a.item a.behind a.reads).1, length-drop (t.at + w * k) s)
-
-    pub width-found : Stays s r → (x : Step A) → x ≡ step_at r s (t.at + w * k) → (xs : List A) (rest : List ℕ) → left_of r s t ≡ got xs rest → (out : Fault) → answer_by x ≡ indexed out xs k
-    width-found h x e xs rest d out = go x (reads_at h (t.at + w * k) e)
-      where
-        go : (x : Step A) → Reads r s (t.at + w * k) x → answer_by x ≡ indexed out xs k
-        go (stops f) g = absurd (at_reads r (there xs rest d) f g)
-        go (item a m) g = sym (at-picked r (there xs rest d) a (drop m s) g.1 out)
-
--- a lookup that may find nothing, once it is said what that means
-pub or_out : {E T A : Type 0} (told : E → Fault) (view : T → A) (e : E) (x : Option T) → got_by told view (ok_or x e) ≡ found_by told view (told e) (Ok x)
-or_out told view e None = refl
-or_out told view e (Some x) = refl
 
 -- an FB type at a place, by its head
 abbrev pub head_entry : ℕ → FbTypeHead → FbTypeEntry
@@ -68,12 +36,6 @@ head_entry at h = record { head = h; fields = head_fields at h }
 -- The section `s`, whose tables stand at `u`
 
 module _ (s : List ℕ) (u : Tables) (e : found u ≡ type_starts_in s) where
-  pub arrays-hold : OneWidth array_descriptor_size array s u.arrays
-  arrays-hold = let q = readable s u e in record { some = omega arith; width = array-width; entries = q.all.arrays; rest = q.stand.arrays.rest; reads = q.stand.arrays.reads }
-
-  pub users-hold : OneWidth user_fb_descriptor_size user_fb s u.user_fbs
-  users-hold = let q = readable s u e in record { some = omega arith; width = fixed-width user-fb-fixed; entries = q.all.user_fbs; rest = q.stand.rest; reads = q.stand.user_fbs }
-
   module _ (i : ℕ) where
     pub array-is : (x : Got Array) → ((xs : List Array) (rest : List ℕ) → left_of array s u.arrays ≡ got xs rest → x ≡ indexed no_array xs i) → x ≡ array_of_section s i
     array-is x h = let q = readable s u e in rw q.is (h q.all.arrays q.stand.arrays.rest q.stand.arrays.reads)
@@ -143,26 +105,18 @@ head-is s i x h = ap (λ (y : Got FbTypeEntry). y >>= λ b. found b.head) h ∙ 
 pub fields-hold : (s : List ℕ) (at : ℕ) (b : FbType) (t : List ℕ) → fb_type (drop at s) ≡ got b t → left_of field s (fields_start at b) ≡ got b.fields t
 fields-hold s at b t e = ap (many (length b.fields) field) (sym (drop-drop fb_type_head_size at s)) ∙ (fields-left (drop at s) b t e).0
 
-pub record FieldsOf (s : List ℕ) (i : ℕ) (t : Table) : Type 0 where
-  pub hold : OneWidth field_entry_size field s t
-  pub is : (j : ℕ) → indexed no_entry hold.entries j ≡ field_of_section s i j
-
-pub fields-of : (s : List ℕ) (i : ℕ) (x : FbTypeEntry) → found x ≡ fb_type_of_section s i → FieldsOf s i x.fields
-fields-of s i x h =
+pub field-is : (s : List ℕ) (i j : ℕ) (x : FbTypeEntry) → found x ≡ fb_type_of_section s i
+    → (y : Got Field) → ((xs : List Field) (rest : List ℕ) → left_of field s x.fields ≡ got xs rest → y ≡ indexed no_entry xs j) → y ≡ field_of_section s i j
+field-is s i j x h y ask =
     let k = steps (item_of (type_tables s)) (sym h) in
     let bs = k.item.fb_types in
-    let j = steps (indexed no_entry bs i) k.second in
-    let b = j.item in
+    let q = steps (indexed no_entry bs i) k.second in
+    let b = q.item in
     let d = (standing s k.item k.first).fb_types in
-    let a = fb-type-at i (length bs) (drop count_size s) bs d.rest b no_entry d.reads j.first in
+    let a = fb-type-at i (length bs) (drop count_size s) bs d.rest b no_entry d.reads q.first in
     let f = fields-hold s (count_size + fb_types_size (take i bs)) b a.0 (ap fb_type (sym (drop-drop (fb_types_size (take i bs)) count_size s)) ∙ a.1) in
-    record {
-      hold = record { some = omega arith; width = field-width; entries = b.fields; rest = a.0; reads = subst (λ (y : FbTypeEntry). left_of field s y.fields ≡ got b.fields a.0) (same-found j.second) f };
-      is = λ n. sym (ap (λ (y : Got TypeTables). y >>= field_of i n) k.first ∙ ap (λ (y : Got FbType). y >>= λ d. indexed no_entry d.fields n) j.first);
-    }
-
-pub field-is : (s : List ℕ) (i j : ℕ) (t : Table) (q : FieldsOf s i t) (x : Got Field) → ((xs : List Field) (rest : List ℕ) → left_of field s t ≡ got xs rest → x ≡ indexed no_entry xs j) → x ≡ field_of_section s i j
-field-is s i j t q x h = h q.hold.entries q.hold.rest q.hold.reads ∙ q.is j
+    ask b.fields a.0 (subst (λ (z : FbTypeEntry). left_of field s z.fields ≡ got b.fields a.0) (same-found q.second) f)
+    ∙ sym (ap (λ (z : Got TypeTables). z >>= field_of i j) k.first ∙ ap (λ (z : Got FbType). z >>= λ v. indexed no_entry v.fields j) q.first)
 
 -- A step over an FB type, by the step over its head
 

@@ -1,4 +1,3 @@
 pub mod Lookups
 pub mod Answers
-pub mod Indexing
 pub mod Laws

@@ -1,25 +1,23 @@
 // The type section: its reader, lookups by position, and walks over its tables. A lookup reads its section again and trusts no count.
+// Kept: one function for each table, which users call by these names; each is one call of a generic function.
 #![tactic(auto)]
 
 ghost use Rattle.std.specs.Prelude.{◌≡◌};
 ghost use Rattle.format.specs.Types.{field, array, user_fb};
 ghost use Rattle.base.specs.Answers.{as_it_is, got_from, next_from};
-ghost use Rattle.base.specs.Cut.{place_of};
 ghost use Rattle.base.specs.Section.{place_in};
 ghost use Rattle.type_entries.specs.Answers.{fb_type_head_in, field_in, array_in, user_fb_in};
 ghost use Rattle.type_section.specs.Answers.{type_counts_in, fb_type_entry_in, fb_type_next_from};
 ghost use Rattle.type_section.specs.Lookups.{type_counts_of_section, fb_type_of_section, field_of_section, array_of_section, user_fb_of_section, tables_at, fb_type_at, field_at, array_at, array_size_at, user_fb_at, fb_types_at, arrays_at, user_fbs_at, fb_type_step_of, next_fb_type_at, next_field_at, next_array_at, next_user_fb_at};
-ghost use Rattle.type_section.specs.Indexing.{OneWidth, Indexes};
 ghost use Rattle.type_section.specs.Laws.{Laws};
 
 use base::cut::Cut;
-use base::entry::{Entry, skip, step};
+use base::entry::{Entry, find_by_width, skip, step};
 use base::error::ContainerError;
 use base::section::{Section, section_cut};
 use reading::Table;
 use type_entries::{
-    ARRAY_DESCRIPTOR_SIZE, ArrayDescriptor, FIELD_ENTRY_SIZE, FbTypeDescriptor, FieldEntry, Tables,
-    USER_FB_DESCRIPTOR_SIZE, UserFbDescriptor, tables_of,
+    ArrayDescriptor, FbTypeDescriptor, FieldEntry, Tables, UserFbDescriptor, tables_of,
 };
 
 // The number of entries in each table.
@@ -42,24 +40,6 @@ pub fn read_from(cut: Cut) -> Result<TypeCounts, ContainerError>
     })
 }
 
-// The entry of index `index` in a table that reads, whose entries all have one width: none before it is read.
-fn find_by_width<E: Entry>(
-    cut: Cut,
-    t: Table,
-    width: usize,
-    index: u16,
-) -> Result<Option<E>, E::Error>
-    requires { OneWidth width (E.reader (place_of cut)) cut.bytes.now t }
-    ensures { Indexes (E.told cut.entry.bytes.now) E.kept (E.reader (place_of cut.entry)) cut.entry.bytes.now t index result }
-{
-    let index = index as usize;
-    if t.count <= index {
-        return Ok(None);
-    }
-    let (entry, _) = E::read(cut, t.at + width * index)?;
-    Ok(Some(entry))
-}
-
 // The FB type at an index of the section, and the table of its fields.
 fn find_fb_type(cut: Cut, index: u16) -> Result<(FbTypeDescriptor, Table), ContainerError>
     ensures { got_from fb_type_entry_in result ≡ fb_type_of_section cut.entry.bytes.now index }
@@ -78,7 +58,7 @@ fn find_field(cut: Cut, index: u16, field: u16) -> Result<FieldEntry, ContainerE
     ensures { got_from field_in result ≡ field_of_section cut.entry.bytes.now index field }
 {
     let (_, fields) = find_fb_type(cut, index)?;
-    find_by_width(cut, fields, FIELD_ENTRY_SIZE, field)?.ok_or(ContainerError::NoEntry)
+    find_by_width(cut, fields, field)?.ok_or(ContainerError::NoEntry)
 }
 
 // The array at an index of the section.
@@ -86,7 +66,7 @@ fn find_array(cut: Cut, index: u16) -> Result<ArrayDescriptor, ContainerError>
     ensures { got_from array_in result ≡ array_of_section cut.entry.bytes.now index }
 {
     let t = tables_of(cut)?.arrays;
-    find_by_width(cut, t, ARRAY_DESCRIPTOR_SIZE, index)?.ok_or(ContainerError::NoArray)
+    find_by_width(cut, t, index)?.ok_or(ContainerError::NoArray)
 }
 
 // The user FB at an index of the section.
@@ -94,7 +74,7 @@ fn find_user_fb(cut: Cut, index: u16) -> Result<UserFbDescriptor, ContainerError
     ensures { got_from user_fb_in result ≡ user_fb_of_section cut.entry.bytes.now index }
 {
     let t = tables_of(cut)?.user_fbs;
-    find_by_width(cut, t, USER_FB_DESCRIPTOR_SIZE, index)?.ok_or(ContainerError::NoEntry)
+    find_by_width(cut, t, index)?.ok_or(ContainerError::NoEntry)
 }
 
 // An FB type: its id and its number of fields.

@@ -1,3 +1,4 @@
 pub mod Table
 pub mod Longest
+pub mod Passing
 pub mod Ascii

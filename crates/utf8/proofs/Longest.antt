@@ -7,10 +7,10 @@ use Prim.Native.Nat.{ℕ, zero, suc, ◌+◌, ◌≤◌}
 use native.Mathlib.Nat.{not-suc-le-zero}
 use native.Mathlib.Omega.{arith}
 use lib.Dec.{T, leb→le}
-use lib.ListN.{length, take, drop, take-append-drop, length-drop, length-append}
-use lib.Seq.{take-length, take-add, drop-drop, drop-append_seam, length-take-le}
+use lib.ListN.{length, take, drop, take-append-drop, length-append}
+use lib.Seq.{take-length, take-add, drop-append_seam, length-take-le}
 use borrow.Author.Tests.{eqb-true, eq-eqb}
-use Rattle.utf8.specs.Utf8.{Range, within, starts, first_of, well_formed, sequence_at, onward, valid_after, valid_up_to, Reached, utf8}
+use Rattle.utf8.specs.Utf8.{Range, within, starts, first_of, well_formed, sequence_at, onward, valid_after, valid_up_to, utf8}
 use Rattle.utf8.specs.Laws.{Whole, none, more, LongestValidStart, Laws}
 use Rattle.utf8.proofs.Table.{left, right, lead}
 
@@ -19,12 +19,12 @@ both true b t u = u
 both false b t u = absurd t
 
 -- the sequence of `n` bytes that a text starts with, and its row
-record Front (rows : List (List Range)) (s : List ℕ) (n : ℕ) : Type 0 where
+pub record Front (rows : List (List Range)) (s : List ℕ) (n : ℕ) : Type 0 where
   row : List Range
   in_table : Memᴰ row rows
   bytes : T (starts row (take n s))
   size : n ≡ length row
-  fits : n ≤ length s
+  pub fits : n ≤ length s
 
 front : (row : List Range) (s : List ℕ) → T (starts row s) → T (starts row (take (length row) s)) × (length row ≤ length s)
 front [] s t = (tt, omega arith)
@@ -43,7 +43,7 @@ first-front (row ∷ rows) s k e = by_cases (first-front rows s k) (starts row s
         record { row = row; in_table = Memᴰ.head refl; bytes = rw (← e) (h tt).0; size = sym e; fits = omega (arith, (h tt).1) }
     by_cases rec false h e = let f = rec e in record { row = f.row; in_table = Memᴰ.tail f.in_table; bytes = f.bytes; size = f.size; fits = f.fits }
 
-sequence-front : (s : List ℕ) (k : ℕ) → sequence_at s ≡ suc k → Front well_formed s (suc k)
+pub sequence-front : (s : List ℕ) (k : ℕ) → sequence_at s ≡ suc k → Front well_formed s (suc k)
 unfolding sequence_at
 sequence-front s k e = first-front well_formed s k e
 
@@ -66,18 +66,6 @@ valid-more (b ∷ s) k e =
     let f = (sequence-front (b ∷ s) k e).fits in
     let g = valid-after k s (omega arith) in
     rw e (omega arith)
-
--- places reached one behind the other, and by one more sequence
-pub reached_then : (s : List ℕ) (at i j : ℕ) → Reached s at i → Reached s i j → Reached s at j
-reached_then s at i j h k = (omega arith, omega arith, omega arith)
-
-pub turn : (s : List ℕ) (at i n : ℕ) → Reached s at i → n ≡ sequence_at (drop i s) → (n ≡ 0 → ⊥) → Reached s at (i + n)
-turn s at i zero h e z = absurd (z refl)
-turn s at i (suc k) h e z =
-    let f = (sequence-front (drop i s) k (sym e)).fits in
-    let l = length-drop i s in
-    let m : valid_up_to (drop i s) ≡ suc k + valid_up_to (drop (i + suc k) s) = rw (← drop-drop (suc k) i s) (valid-more (drop i s) k (sym e)) in
-    (omega arith, omega arith, omega arith)
 
 -- the start of that length is whole
 whole : (k : ℕ) (s : List ℕ) → Whole (take (valid_up_to (drop k s)) (drop k s))

@@ -2,15 +2,17 @@
 -- Assumes nothing.
 use mathlib.Core.Bool.{Bool, true, false, ◌&&◌, ◌||◌, cond, and-true, and-false, or_comm}
 use mathlib.Core.List.{List, [], ◌∷◌, Memᴰ}
-use mathlib.Core.Path.{◌≡◌, refl, sym, ◌∙◌}
-use Prim.Native.Nat.{ℕ, zero, suc, ◌+◌, ◌≤◌, ◌<◌}
-use native.Mathlib.Numerals.{add-one}
+use mathlib.Core.Path.{◌≡◌, refl, sym, ap, ◌∙◌}
+use Prim.Native.Nat.{ℕ, zero, suc, ◌-◌, ◌≤◌, ◌<◌}
+use native.Mathlib.Nat.{not-suc-le-zero}
 use native.Mathlib.Omega.{arith}
 use lib.Dec.{T, leb, ltb, ltb→lt}
-use lib.ListN.{length, drop, get_or, drop_of_length-le}
-use lib.Seq.{drop-cons, drop-drop}
+use lib.ListN.{length, length-drop, length-replicate, take, drop, replicate, get_or}
+use lib.Seq.{take-length}
 use borrow.Author.Tests.{le-leb, lt-leb}
-use Rattle.utf8.specs.Utf8.{Range, within, starts, first_of, well_formed, sequence_at}
+use Rattle.std.specs.Prelude.{Option, Some, None, slice_get}
+use Rattle.std.specs.List.{list_all}
+use Rattle.utf8.specs.Utf8.{Range, within, starts, first_of, well_formed, sequence_at, if_any}
 
 -- the parts of a test that holds
 pub left : (a b : Bool) → T (a && b) → T a
@@ -80,40 +82,74 @@ pub lead : (row : List Range) (b : ℕ) (s : List ℕ) → Memᴰ row well_forme
 unfolding sequence_at
 lead row b s m l = lead-in well_formed row b s tt m l
 
--- at a place of the text: past its end, at a lead byte of row `k`, and at a byte that leads no row
-pub past_end : (s : List ℕ) (at : ℕ) → length s ≤ at → 0 ≡ sequence_at (drop at s)
-unfolding sequence_at
-past_end s at h = rw (drop_of_length-le s h)
+-- a slice `s[n..]`
+pub to_end : (n : ℕ) (s : List ℕ) → take (length s - n) (drop n s) ≡ drop n s
+to_end n s = rw (← length-drop n s) (take-length (drop n s))
 
-pub in_row : (k : ℕ) (s : List ℕ) (at x : ℕ) → (at < length s) × leads (get_or well_formed k []) (get_or s at 0)
-    → x ≡ behind (get_or well_formed k []) (drop (at + 1) s) → x ≡ sequence_at (drop at s)
-in_row k s at x h e =
-    e ∙ rw (drop-cons s at 0 h.0, add-one at) (sym (lead (get_or well_formed k []) (get_or s at 0) (drop (suc at) s) (in_table well_formed k h.1) h.1))
+-- what `sequence` answers for a text: that is empty, that starts with a lead byte of row `k`, and with a byte that leads no row
+pub of_empty : (s : List ℕ) → None ≡ slice_get s 0 → None ≡ if_any (sequence_at s)
+unfolding sequence_at
+of_empty [] e = refl
+of_empty (b ∷ s) e = absurd (cc)
+
+abbrev pub any_behind : List Range → List ℕ → Option ℕ
+any_behind [] s = None
+any_behind (r ∷ row) s = cond (starts row s) (Some (suc (length row))) None
+
+any-behind : (row : List Range) (s : List ℕ) → any_behind row s ≡ if_any (behind row s)
+any-behind [] s = refl
+any-behind (r ∷ row) s = by_cases (starts row s)
   where
-    in_table : (rows : List (List Range)) (k : ℕ) → leads (get_or rows k []) (get_or s at 0) → Memᴰ (get_or rows k []) rows
+    by_cases : (t : Bool) → cond t (Some (suc (length row))) None ≡ if_any (cond t (suc (length row)) 0)
+    by_cases true = refl
+    by_cases false = refl
+
+pub of_member : (row : List Range) (s : List ℕ) (b : ℕ) (x : Option ℕ) → Memᴰ row well_formed → Some b ≡ slice_get s 0 → leads row b
+    → x ≡ any_behind row (drop 1 s) → x ≡ if_any (sequence_at s)
+of_member row [] b x m e l h = absurd (cc)
+of_member row (a ∷ s) b x m e l h =
+    let q : b ≡ a = cc in
+    h ∙ any-behind row s ∙ rw (← q) (sym (ap if_any (lead row b s m l)))
+
+pub of_row : (k : ℕ) (s : List ℕ) (b : ℕ) (x : Option ℕ) → Some b ≡ slice_get s 0 → leads (get_or well_formed k []) b
+    → x ≡ any_behind (get_or well_formed k []) (drop 1 s) → x ≡ if_any (sequence_at s)
+of_row k s b x e l h = of_member (get_or well_formed k []) s b x (in_table well_formed k l) e l h
+  where
+    in_table : (rows : List (List Range)) (k : ℕ) → leads (get_or rows k []) b → Memᴰ (get_or rows k []) rows
     in_table [] k l = absurd l
     in_table (row ∷ rows) zero l = Memᴰ.head refl
     in_table (row ∷ rows) (suc k) l = Memᴰ.tail (in_table rows k l)
 
-pub in-none : (r : Range) (s : List ℕ) (at : ℕ) → T (clear r well_formed) → (at < length s) × leads (r ∷ []) (get_or s at 0) → 0 ≡ sequence_at (drop at s)
+pub of_none : (r : Range) (s : List ℕ) (b : ℕ) → T (clear r well_formed) → Some b ≡ slice_get s 0 → leads (r ∷ []) b → None ≡ if_any (sequence_at s)
 unfolding sequence_at
-in-none r s at t h = rw (drop-cons s at 0 h.0) (sym (no_row r well_formed (get_or s at 0) (drop (suc at) s) t h.1.0 h.1.1))
+of_none r [] b t e l = absurd (cc)
+of_none r (a ∷ s) b t e l =
+    let q : b ≡ a = cc in
+    rw (← q, no_row r well_formed b s t l.0 l.1) refl
 
--- the bytes behind the lead byte, one by one: `a` says whether the next of them is in its range
-next : (n : ℕ) (r : Range) (row : List Range) (s : List ℕ) (at : ℕ)
-    → starts (r ∷ row) (drop (at + n) s) ≡ (starts (r ∷ []) (drop (at + n) s) && starts row (drop (at + suc n) s))
-next n r row s at = let e : at + suc n ≡ (at + n) + 1 = omega arith in rw (e, ← drop-drop 1 (at + n) s) (split (drop (at + n) s))
+-- the bytes behind the lead byte: no text starts with a row that is longer; the second byte, and those behind it
+pub too_short : (row : List Range) (x : List ℕ) → length x < length row → starts row x ≡ false
+too_short [] x h = absurd (not-suc-le-zero h)
+too_short (r ∷ row) [] h = refl
+too_short (r ∷ row) (b ∷ x) h = rw (too_short row x (omega arith)) (and-false (within r b))
+
+second : (r : Range) (row : List Range) (s : List ℕ) → starts (r ∷ row) (drop 1 s) ≡ (starts (r ∷ []) (take (length s - 1) (drop 1 s)) && starts row (drop 2 s))
+second r row s = rw (to_end 1 s) (split s)
   where
-    split : (x : List ℕ) → starts (r ∷ row) x ≡ (starts (r ∷ []) x && starts row (drop 1 x))
+    split : (s : List ℕ) → starts (r ∷ row) (drop 1 s) ≡ (starts (r ∷ []) (drop 1 s) && starts row (drop 2 s))
     split [] = refl
-    split (b ∷ x) = rw (and-true (within r b))
+    split (a ∷ []) = refl
+    split (a ∷ (b ∷ s)) = rw (and-true (within r b))
 
-pub there : (n : ℕ) (r : Range) (row : List Range) (s : List ℕ) (at k x : ℕ) (a : Bool) → a ≡ starts (r ∷ []) (drop (at + n) s) → a ≡ true
-    → x ≡ cond (starts row (drop (at + suc n) s)) k 0 → x ≡ cond (starts (r ∷ row) (drop (at + n) s)) k 0
-there n r row s at k x a e t h = rw (next n r row s at, ← e, t) h
+-- what `followed` tests: the second byte is in its range, and `all` of those behind it
+by_all : (m : ℕ) (r : Range) (x : List ℕ) → m ≤ length x → list_all (within r) (take m x) ≡ starts (replicate m r) x
+by_all zero r x l = refl
+by_all (suc m) r [] l = absurd (not-suc-le-zero l)
+by_all (suc m) r (b ∷ x) l = rw (by_all m r x (omega arith))
 
-pub missing : (n : ℕ) (r : Range) (row : List Range) (s : List ℕ) (at k : ℕ) (a : Bool) → a ≡ starts (r ∷ []) (drop (at + n) s) → a ≡ false
-    → 0 ≡ cond (starts (r ∷ row) (drop (at + n) s)) k 0
-missing n r row s at k a e t = rw (next n r row s at, ← e, t)
+pub tested : (n : ℕ) (q r : Range) (s : List ℕ) (a b : Bool) → n ≤ length s → a ≡ starts (q ∷ []) (take (length s - 1) (drop 1 s))
+    → b ≡ list_all (within r) (take (n - 2) (drop 2 s)) → starts (q ∷ replicate (n - 2) r) (drop 1 s) ≡ (a && b)
+tested n q r s a b l e f = rw (second q (replicate (n - 2) r) s, e, f, by_all (n - 2) r (drop 2 s) (omega (arith, length-drop 2 s)))
 
-pub ruleset bytes = (there, missing)
+pub untested : (n : ℕ) (q r : Range) (s : List ℕ) → 2 ≤ n → length s < n → starts (q ∷ replicate (n - 2) r) (drop 1 s) ≡ false
+untested n q r s m l = too_short (q ∷ replicate (n - 2) r) (drop 1 s) (omega (arith, length-drop 1 s, length-replicate (n - 2) r))

@@ -1,6 +1,7 @@
 -- UTF-8 by Unicode's table of well-formed byte sequences (The Unicode Standard, table 3-7). Document 01, "Leaves": "UTF-8 follows Unicode's
 -- table of well-formed sequences: ..".
-use Rattle.std.specs.Prelude.{Bool, true, false, ◌&&◌, cond, List, [], ◌∷◌, ◌≡◌, ℕ, zero, suc, ◌+◌, ◌≤◌, leb, eqb, length, drop}
+use mathlib.Core.List.{Memᴰ}
+use Rattle.std.specs.Prelude.{Bool, true, false, ◌&&◌, cond, Option, None, Some, List, [], ◌∷◌, ◌≡◌, ℕ, zero, suc, ◌+◌, ◌≤◌, leb, eqb, length}
 
 -- the bytes from `low` to `high`
 pub record Range : Type 0 where
@@ -43,6 +44,15 @@ first_of (row ∷ rows) s = cond (starts row s) (length row) (first_of rows s)
 unfoldable pub sequence_at : List ℕ → ℕ
 sequence_at s = first_of well_formed s
 
+-- the length of a sequence, if there is one
+abbrev pub if_any : ℕ → Option ℕ
+if_any zero = None
+if_any (suc k) = Some (suc k)
+
+-- a row of the table
+abbrev pub IsRow : List Range → Type 0
+IsRow row = Memᴰ row well_formed
+
 -- no sequence: the count ends here; a sequence: its first byte counts, and then what `f` gives for the rest
 abbrev pub onward : ℕ → (ℕ → ℕ) → ℕ
 onward zero f = 0
@@ -58,9 +68,10 @@ valid_after zero (b ∷ s) = onward (sequence_at (b ∷ s)) (λ k. valid_after k
 unfoldable pub valid_up_to : List ℕ → ℕ
 valid_up_to s = valid_after 0 s
 
--- from the place `at` on whole sequences reach to the place i: they add their length to the valid length of the rest
-abbrev pub Reached : List ℕ → ℕ → ℕ → Type 0
-Reached s at i = (at ≤ i) × (i ≤ length s) × (i + valid_up_to (drop i s) ≡ at + valid_up_to (drop at s))
+-- whole sequences lead from the text to its rest: they add their length to the valid length of the rest
+pub record Passed (s rest : List ℕ) : Type 0 where
+  pub within : length rest ≤ length s
+  pub valid : valid_up_to s + length rest ≡ length s + valid_up_to rest
 
 -- the text is well-formed UTF-8: that length is its own
 unfoldable pub utf8 : List ℕ → Bool

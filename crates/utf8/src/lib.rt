@@ -1,187 +1,120 @@
 // UTF-8, by Unicode's table of well-formed byte sequences (The Unicode Standard, table 3-7).
 #![tactic(auto)]
 
-ghost use Rattle.std.specs.Prelude.{false, cond, [], ◌∷◌, ◌≡◌, ◌+◌, ◌≤◌, ◌<◌, length, drop, replicate};
+ghost use Rattle.std.specs.Prelude.{cond, Some, None, IfSome, IsTrue, [], ◌∷◌, ◌≡◌, ◌-◌, ◌≤◌, ◌<◌, length, drop, replicate};
 ghost use Rattle.utf8.specs.Laws.{Laws};
-ghost use Rattle.utf8.specs.Utf8.{◌to◌, starts, sequence_at, valid_up_to, Reached, utf8};
+ghost use Rattle.utf8.specs.Utf8.{◌to◌, starts, sequence_at, if_any, IsRow, valid_up_to, Passed, utf8};
 
-// Whether a byte from `low` to `high` stands at `at`.
-fn has(s: &[u8], at: usize, low: u8, high: u8) -> bool
-    ensures { result ≡ starts (low to high ∷ []) (drop at s.now) }
+// Whether `s` starts with a byte from `low` to `high`.
+// Kept: two bytes and two comparisons, which are as short as a range and its `contains`.
+fn has(s: &[u8], low: u8, high: u8) -> bool
+    ensures { result ≡ starts (low to high ∷ []) s.now }
 {
-    if s.len() <= at {
-        return false;
-    }
-    let b = s[at];
-    if b < low {
-        return false;
-    }
-    b <= high
+    s.first().is_some_and(|b| low <= *b && *b <= high)
 }
 
-// The length of a sequence of two bytes whose first byte, already checked, stands at `at`; 0 if the second byte does not follow.
-fn two(s: &[u8], at: usize) -> usize
-    requires { at < length s.now }
-    ensures { result ≡ cond (starts (0x80 to 0xBF ∷ []) (drop (at + 1) s.now)) 2 0 }
+// The length `n` of the sequence that `s` starts with, whose first byte is already checked, if the others follow: the second from `low` to
+// `high`, those behind it from 80 to BF.
+#[inline(always)]
+fn followed(s: &[u8], n: usize, low: u8, high: u8) -> Option<usize>
+    requires { 2 ≤ n }
+    ensures value { result ≡ cond (starts (low to high ∷ replicate (n - 2) (0x80 to 0xBF)) (drop 1 s.now)) (Some n) None }
+    ensures fits { IfSome result (λ k. (k ≡ n) × (k ≤ length s.now)) }
 {
-    if has(s, at + 1, 0x80, 0xBF) { 2 } else { 0 }
-}
-
-// The same for three bytes, the second of them from `low` to `high`.
-fn three(s: &[u8], at: usize, low: u8, high: u8) -> usize
-    requires { at < length s.now }
-    ensures { result ≡ cond (starts (low to high ∷ 0x80 to 0xBF ∷ []) (drop (at + 1) s.now)) 3 0 }
-{
-    if has(s, at + 1, low, high) {
-        return if has(s, at + 2, 0x80, 0xBF) { 3 } else { 0 };
-    }
-    0
-}
-
-// The same for four bytes.
-fn four(s: &[u8], at: usize, low: u8, high: u8) -> usize
-    requires { at < length s.now }
-    ensures { result ≡ cond (starts (low to high ∷ 0x80 to 0xBF ∷ 0x80 to 0xBF ∷ []) (drop (at + 1) s.now)) 4 0 }
-{
-    if has(s, at + 1, low, high) {
-        if has(s, at + 2, 0x80, 0xBF) {
-            return if has(s, at + 3, 0x80, 0xBF) { 4 } else { 0 };
-        }
-    }
-    0
-}
-
-// The length of the well-formed sequence at `at`, or 0 if there is none.
-fn sequence(s: &[u8], at: usize) -> usize
-    ensures { result ≡ sequence_at (drop at s.now) }
-{
-    if s.len() <= at {
-        return 0;
-    }
-    let lead = s[at];
-    match lead {
-        0x00..=0x7F => 1,
-        0xC2..=0xDF => two(s, at),
-        0xE0 => three(s, at, 0xA0, 0xBF),
-        0xE1..=0xEC => three(s, at, 0x80, 0xBF),
-        0xED => three(s, at, 0x80, 0x9F),
-        0xEE..=0xEF => three(s, at, 0x80, 0xBF),
-        0xF0 => four(s, at, 0x90, 0xBF),
-        0xF1..=0xF3 => four(s, at, 0x80, 0xBF),
-        0xF4 => four(s, at, 0x80, 0x8F),
-        _ => 0,
+    if n <= s.len() && has(&s[1..], low, high) && s[2..n].iter().all(|b| 0x80 <= *b && *b <= 0xBF) {
+        Some(n)
+    } else {
+        None
     }
 }
 
-// Whether eight bytes of ASCII stand at `at`. No early exit, so that the compiler can test all eight at once.
-fn eight(s: &[u8], at: usize) -> bool
-    requires { at ≤ length s.now }
-    ensures { result ≡ starts (replicate 8 (0x00 to 0x7F)) (drop at s.now) }
+// The length of the well-formed sequence that `s` starts with, if there is one.
+fn sequence(s: &[u8]) -> Option<usize>
+    ensures { result ≡ if_any (sequence_at s.now) }
 {
-    if s.len() - at < 8 {
+    match s.first()? {
+        0x00..=0x7F => Some(1),
+        0xC2..=0xDF => followed(s, 2, 0x80, 0xBF),
+        0xE0 => followed(s, 3, 0xA0, 0xBF),
+        0xE1..=0xEC => followed(s, 3, 0x80, 0xBF),
+        0xED => followed(s, 3, 0x80, 0x9F),
+        0xEE..=0xEF => followed(s, 3, 0x80, 0xBF),
+        0xF0 => followed(s, 4, 0x90, 0xBF),
+        0xF1..=0xF3 => followed(s, 4, 0x80, 0xBF),
+        0xF4 => followed(s, 4, 0x80, 0x8F),
+        _ => None,
+    }
+}
+
+// Whether `s` starts with eight bytes of ASCII. No early exit, so that the compiler can test all eight at once.
+// Kept: a count over an index. With `is_ascii` or a fold over the eight bytes, mixed letters take 1.2 to 1.4 times as long.
+fn eight(s: &[u8]) -> bool
+    ensures value { result ≡ starts (replicate 8 (0x00 to 0x7F)) s.now }
+    ensures long { IsTrue result → 8 ≤ length s.now }
+{
+    if s.len() < 8 {
         return false;
     }
     let mut n = 0usize;
     for k in 0..8usize {
-        if s[at + k] <= 0x7F {
+        if s[k] <= 0x7F {
             n += 1;
         }
     }
     n == 8
 }
 
-// The place behind the ASCII from `at` on.
-fn past_ascii(s: &[u8], at: usize) -> usize
-    requires { at ≤ length s.now }
-    ensures { Reached s.now at result × (starts (0x00 to 0x7F ∷ []) (drop result s.now) ≡ false) }
+// What stands behind the ASCII that `s` starts with.
+fn past_ascii(s: &[u8]) -> &[u8]
+    ensures { Passed s.now result.now }
 {
-    let mut i = at;
-    while eight(s, i) {
-        i += 8;
+    let mut rest = s;
+    while eight(rest) {
+        rest = &rest[8..];
     }
-    while has(s, i, 0x00, 0x7F) {
-        i += 1;
+    while let [0x00..=0x7F, more @ ..] = rest {
+        rest = more;
     }
-    i
+    rest
 }
 
-// The place behind the sequences of two bytes from `at` on.
-fn past_two(s: &[u8], at: usize) -> usize
-    requires { at ≤ length s.now }
-    ensures { Reached s.now at result }
+// What stands behind the sequences that `s` starts with, of `n` bytes each, the first from `low` to `high` and the others from 80 to BF.
+#[inline(always)]
+fn past_alike(s: &[u8], n: usize, low: u8, high: u8) -> &[u8]
+    requires length { 2 ≤ n }
+    requires row { IsRow (low to high ∷ replicate (n - 1) (0x80 to 0xBF)) }
+    ensures { Passed s.now result.now }
 {
-    let mut i = at;
-    while i < s.len() {
-        let lead = s[i];
-        match lead {
-            0xC2..=0xDF => {
-                let n = two(s, i);
-                if n == 0 {
-                    return i;
-                }
-                i += n;
-            }
-            _ => {
-                return i;
-            }
-        }
+    let mut rest = s;
+    while has(rest, low, high)
+        && let Some(k) = followed(rest, n, 0x80, 0xBF)
+    {
+        rest = &rest[k..];
     }
-    i
-}
-
-// The same for three bytes, with one of the usual first bytes.
-fn past_three(s: &[u8], at: usize) -> usize
-    requires { at ≤ length s.now }
-    ensures { Reached s.now at result }
-{
-    let mut i = at;
-    while i < s.len() {
-        let lead = s[i];
-        match lead {
-            0xE1..=0xEC => {
-                let n = three(s, i, 0x80, 0xBF);
-                if n == 0 {
-                    return i;
-                }
-                i += n;
-            }
-            _ => {
-                return i;
-            }
-        }
-    }
-    i
-}
-
-// The place behind the sequences from `at` on that are like the one before `at`, which has `n` bytes.
-fn past_alike(s: &[u8], at: usize, n: usize) -> usize
-    requires { at ≤ length s.now }
-    ensures { Reached s.now at result }
-{
-    if n == 2 {
-        return past_two(s, at);
-    }
-    past_three(s, at)
+    rest
 }
 
 // The length of the longest start of `s` that consists of whole well-formed sequences: the Rust's `Utf8Error::valid_up_to`. `sequence`
 // decides; runs of sequences of one kind are passed faster.
+// Kept: a loop of its own in place of `str::from_utf8`, which takes twice as long on letters of two or three bytes.
+#[tactic(auto, using(crate::proofs::Passing::fits, crate::proofs::Passing::none_left))]
 pub fn valid_up_to(s: &[u8]) -> usize
     ensures { result ≡ valid_up_to s.now }
 {
-    let mut i = 0;
+    let mut rest = s;
     loop {
-        if has(s, i, 0x00, 0x7F) {
-            i = past_ascii(s, i);
+        if has(rest, 0x00, 0x7F) {
+            rest = past_ascii(&rest[1..]);
+        } else if let Some(n) = sequence(rest) {
+            let more = &rest[n..];
+            rest = match n {
+                2 => past_alike(more, 2, 0xC2, 0xDF),
+                _ => past_alike(more, 3, 0xE1, 0xEC),
+            };
         } else {
-            let n = sequence(s, i);
-            if n == 0 {
-                break;
-            }
-            i = past_alike(s, i + n, n);
+            return s.len() - rest.len();
         }
     }
-    i
 }
 
 // Whether `s` is well-formed UTF-8.

@@ -2,81 +2,62 @@
 // Standard, table 3-7). Writes a line for each text: its bytes, and how far it is valid.
 #![tactic(auto)]
 
-ghost use Rattle.std.specs.Prelude.{◌<◌, ◌≤◌};
-
-fn word(rt: &impl Print, text: &[u8]) {
-    let _ = rt.write_all(text);
-}
-
-fn byte(rt: &impl Print, b: u8) {
-    let _ = print!(rt; "{b:02x}");
-}
+ghost use Rattle.std.specs.Prelude.{◌<◌};
 
 fn show(rt: &impl Print, s: &[u8]) {
-    for i in 0..s.len() {
+    for (i, b) in s.iter().enumerate() {
         if 0 < i {
-            word(rt, b" ");
+            let _ = rt.write_all(b" ");
         }
-        byte(rt, s[i]);
+        let _ = print!(rt; "{b:02x}");
     }
-    word(rt, b": ");
-    let _ = rt.print(utf8::valid_up_to(s));
-    word(rt, b"\n");
+    let n = utf8::valid_up_to(s);
+    let _ = println!(rt; ": {n}");
 }
 
-// The first `n` bytes of `text`.
-fn show_first(rt: &impl Print, text: [u8; 4], n: usize)
-    requires { n ≤ 4 }
-{
-    show(rt, &text[..n]);
-}
-
-// The same with `b` at `at`.
-fn show_with(rt: &impl Print, text: [u8; 4], n: usize, at: usize, b: u8)
-    requires { (at < n) × (n ≤ 4) }
+// The text with `b` at `at`.
+fn show_with<const N: usize>(rt: &impl Print, text: [u8; N], at: usize, b: u8)
+    requires { at < N }
 {
     let mut other = text;
     other[at] = b;
-    show_first(rt, other, n);
+    show(rt, &other);
 }
 
 // A row at one of its bytes: that byte at its lowest, at its highest, one below and one above, and the others at
 // their lowest; and the sequence cut off behind it.
-fn edges(rt: &impl Print, low: [u8; 4], high: [u8; 4], n: usize, at: usize)
-    requires { (at < n) × (n ≤ 4) }
+fn edges<const N: usize>(rt: &impl Print, low: [u8; N], at: usize, last: u8)
+    requires { at < N }
 {
     let first = low[at];
-    let last = high[at];
-    show_with(rt, low, n, at, first);
-    show_with(rt, low, n, at, last);
+    show_with(rt, low, at, first);
+    show_with(rt, low, at, last);
     if 0 < first {
-        show_with(rt, low, n, at, first - 1);
+        show_with(rt, low, at, first - 1);
     }
     if last < 0xFF {
-        show_with(rt, low, n, at, last + 1);
+        show_with(rt, low, at, last + 1);
     }
-    show_first(rt, low, at + 1);
+    show(rt, &low[..at + 1]);
 }
 
-// A row of the table: `n` bytes, each from that of `low` to that of `high`.
-fn row(rt: &impl Print, low: [u8; 4], high: [u8; 4], n: usize)
-    requires { n ≤ 4 }
-{
-    for at in 0..n {
-        edges(rt, low, high, n, at);
+// A row of the table: N bytes, each from that of `low` to that of `high`.
+fn row<const N: usize>(rt: &impl Print, low: [u8; N], high: [u8; N]) {
+    for (at, last) in high.iter().enumerate() {
+        edges(rt, low, at, *last);
     }
 }
 
 fn main(rt: HostRuntime) {
-    row(&rt, [0x00, 0, 0, 0], [0x7F, 0, 0, 0], 1);
-    row(&rt, [0xC2, 0x80, 0, 0], [0xDF, 0xBF, 0, 0], 2);
-    row(&rt, [0xE0, 0xA0, 0x80, 0], [0xE0, 0xBF, 0xBF, 0], 3);
-    row(&rt, [0xE1, 0x80, 0x80, 0], [0xEC, 0xBF, 0xBF, 0], 3);
-    row(&rt, [0xED, 0x80, 0x80, 0], [0xED, 0x9F, 0xBF, 0], 3);
-    row(&rt, [0xEE, 0x80, 0x80, 0], [0xEF, 0xBF, 0xBF, 0], 3);
-    row(&rt, [0xF0, 0x90, 0x80, 0x80], [0xF0, 0xBF, 0xBF, 0xBF], 4);
-    row(&rt, [0xF1, 0x80, 0x80, 0x80], [0xF3, 0xBF, 0xBF, 0xBF], 4);
-    row(&rt, [0xF4, 0x80, 0x80, 0x80], [0xF4, 0x8F, 0xBF, 0xBF], 4);
+    row(&rt, [0x00], [0x7F]);
+    row(&rt, [0xC2, 0x80], [0xDF, 0xBF]);
+    row(&rt, [0xE0, 0xA0, 0x80], [0xE0, 0xBF, 0xBF]);
+    row(&rt, [0xE1, 0x80, 0x80], [0xEC, 0xBF, 0xBF]);
+    row(&rt, [0xED, 0x80, 0x80], [0xED, 0x9F, 0xBF]);
+    row(&rt, [0xEE, 0x80, 0x80], [0xEF, 0xBF, 0xBF]);
+    row(&rt, [0xF0, 0x90, 0x80, 0x80], [0xF0, 0xBF, 0xBF, 0xBF]);
+    row(&rt, [0xF1, 0x80, 0x80, 0x80], [0xF3, 0xBF, 0xBF, 0xBF]);
+    row(&rt, [0xF4, 0x80, 0x80, 0x80], [0xF4, 0x8F, 0xBF, 0xBF]);
     // Bytes that start no sequence, the empty text, and a text that is valid only at its start.
     show(&rt, b"\x80");
     show(&rt, b"\xC0");

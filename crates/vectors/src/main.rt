@@ -3,15 +3,14 @@
 // state. Inputs at the hash limit, one byte over it, and beyond a state's capacity follow.
 #![tactic(auto)]
 
-ghost use Rattle.std.specs.Prelude.{◌*◌, ◌<◌, ◌≤◌, length};
-ghost use Rattle.hasher.specs.State.{capacity};
+ghost use Rattle.std.specs.Prelude.{◌<◌};
 
 use base::digest::{Digest, HASH_LEN};
 use base::error::ContainerError;
 use blake3::HASH_LIMIT;
 use compression::{BLOCK_LEN, CHUNK_LEN};
 use hasher::{CAPACITY, Hasher};
-use programs::read_full;
+use programs::{first, read_full, write, write_decimal};
 use std::fs::File;
 
 // Twice as many bytes as a state takes in.
@@ -23,59 +22,21 @@ const NO_PLACE_LEFT: usize = TWICE - CHUNK_LEN + 1;
 // More than the file has.
 const FILE_ROOM: usize = 65536;
 
-// The number at the start of a line, and how many digits it has.
-#[derive(Clone, Copy)]
-struct Number {
-    value: usize,
-    digits: usize,
-}
-
-fn word(rt: &impl Print, text: &[u8]) {
-    programs::write(rt, text);
-}
-
-fn count(rt: &impl Print, n: usize) {
-    programs::write_decimal(rt, n as u64);
-}
-
-fn wide(b: u8) -> usize
-    ensures { result < 256 }
-{
-    b as usize
-}
-
-fn room() -> [u8; TWICE] {
-    [0; TWICE]
-}
-
 fn fill(input: &mut [u8]) {
-    for i in 0..input.len() {
-        input[i] = (i % 251) as u8;
-    }
-}
-
-// The digit of the low four bits.
-fn digit(b: u8) -> u8 {
-    let low = b % 16;
-    if low < 10 {
-        low + b'0'
-    } else {
-        low - 10 + b'a'
+    for (i, byte) in input.iter_mut().enumerate() {
+        *byte = (i % 251) as u8;
     }
 }
 
 // A digest in hexadecimal.
 fn text_of(digest: Digest) -> [u8; 2 * HASH_LEN] {
-    let bytes = digest.bytes();
-    let mut text = [0u8; 2 * HASH_LEN];
-    for i in 0..HASH_LEN {
-        text[2 * i] = digit(bytes[i] / 16);
-        text[2 * i + 1] = digit(bytes[i]);
-    }
+    let mut text = [0; 2 * HASH_LEN];
+    let _ = hex::encode_to_slice(digest.bytes(), &mut text);
     text
 }
 
 // The lengths of the parts that an input is fed in, over and over.
+// Kept: a `match`. Of an array of lengths it would have to be said and proved beside it that none is 0, so that the feeding ends.
 fn part_length(turn: usize) -> usize
     ensures { 0 < result }
 {
@@ -91,25 +52,16 @@ fn part_length(turn: usize) -> usize
     }
 }
 
-// Where the part that starts at `at` ends.
-fn part_end(turn: usize, at: usize, end: usize) -> usize
-    requires { at < end }
-    ensures { (at < result) × (result ≤ end) }
-{
-    let length = part_length(turn);
-    if length < end - at { at + length } else { end }
-}
-
 // The digest of an input that is fed in parts, by value.
 fn in_parts(s: &[u8]) -> Result<Digest, ContainerError> {
     let mut h = Hasher::new();
-    let mut at = 0;
+    let mut rest = s;
     let mut turn = 0;
-    while at < s.len() {
-        let end = part_end(turn, at, s.len());
-        let next = h.update(&s[at..end]);
+    while !rest.is_empty() {
+        let (part, more) = rest.split_at(part_length(turn).min(rest.len()));
+        let next = h.update(part);
         h = next;
-        at = end;
+        rest = more;
         turn = (turn + 1) % 8;
     }
     blake3::finish(h)
@@ -117,23 +69,19 @@ fn in_parts(s: &[u8]) -> Result<Digest, ContainerError> {
 
 // The digest of an input that is fed in two parts, through a lent state.
 fn in_two(s: &[u8]) -> Result<Digest, ContainerError> {
-    let cut = s.len() / 3;
-    let first = blake3::fed_with(Hasher::new(), &s[..cut]);
-    blake3::finish(blake3::fed_with(first, &s[cut..]))
-}
-
-fn refused(rt: &impl Print, error: ContainerError) {
-    word(rt, b" refused ");
-    count(rt, wide(error.number()));
+    let (first, second) = s.split_at(s.len() / 3);
+    blake3::finish(blake3::fed_with(blake3::fed_with(Hasher::new(), first), second))
 }
 
 fn answered(rt: &impl Print, answer: Result<Digest, ContainerError>) {
     match answer {
-        Err(error) => refused(rt, error),
+        Err(error) => {
+            write(rt, b" refused ");
+            write_decimal(rt, u64::from(error.number()));
+        }
         Ok(digest) => {
-            word(rt, b" ");
-            let text = text_of(digest);
-            word(rt, &text);
+            write(rt, b" ");
+            write(rt, &text_of(digest));
         }
     }
 }
@@ -141,10 +89,7 @@ fn answered(rt: &impl Print, answer: Result<Digest, ContainerError>) {
 fn has_digits(answer: Result<Digest, ContainerError>, expected: &[u8]) -> bool {
     match answer {
         Err(_) => false,
-        Ok(digest) => {
-            let text = text_of(digest);
-            check::same(&text, expected)
-        }
+        Ok(digest) => check::same(&text_of(digest), expected),
     }
 }
 
@@ -158,121 +103,87 @@ fn is_right(
     if has_digits(answer, expected) {
         return true;
     }
-    word(rt, way);
+    write(rt, way);
     answered(rt, answer);
     false
 }
 
 // A vector: an input and the digits of its digest.
 fn run(rt: &impl Print, s: &[u8], expected: &[u8]) {
-    count(rt, s.len());
+    write_decimal(rt, s.len() as u64);
     if is_right(rt, b" wrong, whole:", blake3::hash(s), expected)
         && is_right(rt, b" wrong, in parts:", in_parts(s), expected)
         && is_right(rt, b" wrong, in two:", in_two(s), expected)
     {
-        word(rt, b" ok");
+        write(rt, b" ok");
     }
-    word(rt, b"\n");
+    write(rt, b"\n");
 }
 
 // An input whose digest is not given.
 fn show(rt: &impl Print, s: &[u8]) {
-    count(rt, s.len());
+    write_decimal(rt, s.len() as u64);
     answered(rt, blake3::hash(s));
-    word(rt, b", in parts");
+    write(rt, b", in parts");
     answered(rt, in_parts(s));
-    word(rt, b", in two");
+    write(rt, b", in two");
     answered(rt, in_two(s));
-    word(rt, b"\n");
+    write(rt, b"\n");
 }
 
-// Stops at the first byte that is not a digit, or when the number is larger than any input's length.
-fn decimal(s: &[u8]) -> Number {
-    let mut value = 0;
-    let mut digits = 0;
-    while digits < s.len() {
-        let c = s[digits];
-        if c < b'0' || b'9' < c {
-            break;
-        }
-        if HASH_LIMIT < value {
-            break;
-        }
-        value = 10 * value + wide(c - b'0');
-        digits += 1;
+// The number that the digits stand for; none if a byte is no digit, or if there is none.
+fn decimal(digits: &[u8]) -> Option<usize> {
+    let mut value = None;
+    for digit in digits {
+        let low = char::from(*digit).to_digit(10)?;
+        value = Some(
+            value
+                .unwrap_or(0usize)
+                .checked_mul(10)?
+                .checked_add(low as usize)?,
+        );
     }
-    Number { value, digits }
+    value
 }
 
-fn is_comment(s: &[u8]) -> bool {
-    s.len() == 0 || s[0] == b'#'
-}
-
-fn malformed(rt: &impl Print, s: &[u8]) {
-    word(rt, b"malformed: ");
-    word(rt, s);
-    word(rt, b"\n");
+// The input and the digits of the digest that a line gives: the input's length, a space, the digits.
+fn vector<'a>(line: &'a [u8], input: &'a [u8]) -> Option<(&'a [u8], &'a [u8])> {
+    let mut words = line.splitn(2, |byte| *byte == b' ');
+    let length = decimal(words.next()?)?;
+    Some((input.get(..length)?, words.next()?))
 }
 
 // A line of the file. Its input is the first bytes of `input`.
 fn line(rt: &impl Print, s: &[u8], input: &[u8]) {
-    if is_comment(s) {
+    if s.is_empty() || s[0] == b'#' {
         return;
     }
-    let n = decimal(s);
-    let length = n.value;
-    let digits = n.digits;
-    if s.len() <= digits {
-        malformed(rt, s);
-        return;
-    }
-    if input.len() < length {
-        malformed(rt, s);
-        return;
-    }
-    if digits == 0 || s[digits] != b' ' {
-        malformed(rt, s);
-        return;
-    }
-    let from = digits + 1;
-    run(rt, &input[..length], &s[from..]);
-}
-
-// Where the line that starts at `at` ends.
-fn line_end(file: &[u8], at: usize) -> usize
-    requires { at ≤ length file.now }
-    ensures { (at ≤ result) × (result ≤ length file.now) }
-{
-    let mut end = at;
-    while end < file.len() {
-        if file[end] == b'\n' {
-            break;
+    match vector(s, input) {
+        Some((part, expected)) => run(rt, part, expected),
+        None => {
+            write(rt, b"malformed: ");
+            write(rt, s);
+            write(rt, b"\n");
         }
-        end += 1;
     }
-    end
 }
 
 fn lines(rt: &impl Print, file: &[u8], input: &[u8]) {
-    let mut at = 0;
-    while at < file.len() {
-        let end = line_end(file, at);
-        line(rt, &file[at..end], input);
-        if end == file.len() {
-            return;
-        }
-        at = end + 1;
+    for s in file.split(|byte| *byte == b'\n') {
+        line(rt, s, input);
     }
 }
 
 // The hash limit, one byte over it, and two inputs beyond a state's capacity.
-fn edges(rt: &impl Print, input: &[u8])
-    requires { 2 * capacity ≤ length input.now }
-{
-    show(rt, &input[..HASH_LIMIT]);
-    show(rt, &input[..HASH_LIMIT + 1]);
-    show(rt, &input[..NO_PLACE_LEFT]);
-    show(rt, input);
+fn edges(rt: &impl Print, input: &[u8]) {
+    for n in [HASH_LIMIT, HASH_LIMIT + 1, NO_PLACE_LEFT, TWICE] {
+        show(rt, first(input, n));
+    }
+}
+
+// Kept: rooms made by functions, since the check of a function that has so long an array in it runs out of stack.
+fn room() -> [u8; TWICE] {
+    [0; TWICE]
 }
 
 fn file_room() -> [u8; FILE_ROOM] {

@@ -17,9 +17,9 @@ count_bits = 64
 abbrev pub counter_after : ℕ → ℕ → ℕ
 counter_after t j = (t + j) % 2 ^ count_bits
 
--- each lane of r is that lane of h compressed with its block of s; the block of lane 0 starts at `at`
-abbrev pub Compressed : (h r : List (List ℕ)) (s : List ℕ) (at t flags : ℕ) → Type 0
-Compressed h r s at t flags = (j : ℕ) → j < 4 → lane r j ≡ compress (lane h j) (words (drop (at + chunk_len * j) s)) (counter_after t j) block_len flags
+-- each lane of r is that lane of h compressed with its block of s; s starts with the block of lane 0
+abbrev pub Compressed : (h r : List (List ℕ)) (s : List ℕ) (t flags : ℕ) → Type 0
+Compressed h r s t flags = (j : ℕ) → j < 4 → lane r j ≡ compress (lane h j) (words (drop (chunk_len * j) s)) (counter_after t j) block_len flags
 
 -- the chaining value of chunk t, which s starts with, from the chaining value c on: the blocks before the last, and the last
 unfoldable pub chunk_value : List ℕ → ℕ → List ℕ → List ℕ
@@ -30,6 +30,6 @@ abbrev pub from : List ℕ → ℕ → List ℕ
 from c zero = c
 from c (suc j) = iv
 
--- each lane of r has the chaining value of its chunk
-abbrev pub Chunks : (c : List ℕ) (r : List (List ℕ)) (s : List ℕ) (at t : ℕ) → Type 0
-Chunks c r s at t = (j : ℕ) → j < 4 → lane r j ≡ chunk_value (from c j) (counter_after t j) (drop (at + chunk_len * j) s)
+-- each lane of r has the chaining value of its chunk; s starts with the chunk of lane 0
+abbrev pub Chunks : (c : List ℕ) (r : List (List ℕ)) (s : List ℕ) (t : ℕ) → Type 0
+Chunks c r s t = (j : ℕ) → j < 4 → lane r j ≡ chunk_value (from c j) (counter_after t j) (drop (chunk_len * j) s)

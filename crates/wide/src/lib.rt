@@ -8,8 +8,8 @@ ghost use Rattle.wide.specs.Lanes as Lanes;
 ghost use Rattle.compression.specs.Compression as Compression;
 
 use compression::{
-    BLOCK_LEN, CHUNK_END, CHUNK_LEN, LAST_BLOCK, LAST_BLOCK_START, fold, iv, permute, round, start,
-    start_flag, words_at,
+    BLOCK_LEN, CHUNK_END, CHUNK_LEN, LAST_BLOCK, LAST_BLOCK_START, block_words, fold, iv, permute,
+    round, start, start_flag,
 };
 
 // The number of a chunk, which is also how many chunks come before it. Its width is `count_bits` of specs/Lanes.antt; the compression takes 64 bits.
@@ -50,31 +50,30 @@ fn compress(h: [u32; 8], m: [u32; 16], t: u64, flags: u32) -> [u32; 8]
     fold(rounds(start(h, t, BLOCK_LEN as u32, flags), m))
 }
 
-// The blocks of `s` that start at `at` and one, two and three chunks after it, each compressed in its lane.
-fn compress4(h: [[u32; 8]; 4], s: &[u8], at: usize, t: ChunkCounter, flags: u32) -> [[u32; 8]; 4]
-    requires { at + 3 * chunk_len + block_len ≤ length s.now }
-    ensures { Lanes.Compressed h result s.now at t flags }
+// The block that `s` starts with and those one, two and three chunks after it, each compressed in its lane.
+fn compress4(h: [[u32; 8]; 4], s: &[u8], t: ChunkCounter, flags: u32) -> [[u32; 8]; 4]
+    requires { 3 * chunk_len + block_len ≤ length s.now }
+    ensures { Lanes.Compressed h result s.now t flags }
 {
     let mut out = h;
-    for i in 0..4usize {
-        let c = h[i];
-        let m = words_at(s, at + CHUNK_LEN * i);
-        let f = compress(c, m, counter_after(t, i as ChunkCounter), flags);
-        out[i] = f;
+    for (i, lane) in out.iter_mut().enumerate() {
+        let m = block_words(&s[CHUNK_LEN * i..]);
+        *lane = compress(h[i], m, counter_after(t, i as ChunkCounter), flags);
     }
     out
 }
 
-// The chaining values of four whole chunks of `s` from `at` on. The first has the number `t` and goes on from the chaining value `cv`.
-pub fn chunks4(cv: [u32; 8], s: &[u8], at: usize, t: ChunkCounter) -> [[u32; 8]; 4]
-    requires { at + 4 * chunk_len ≤ length s.now }
-    ensures { Lanes.Chunks cv result s.now at t }
+// The chaining values of the four whole chunks that `s` starts with. The first has the number `t` and goes on from the chaining value `cv`.
+pub fn chunks4(cv: [u32; 8], s: &[u8], t: ChunkCounter) -> [[u32; 8]; 4]
+    requires { 4 * chunk_len ≤ length s.now }
+    ensures { Lanes.Chunks cv result s.now t }
 {
     let v = iv();
     let mut h = [cv, v, v, v];
+    // Kept: a block's number is its place and its flag; the blocks of the four chunks do not follow one another.
     for b in 0..LAST_BLOCK {
-        let next = compress4(h, s, at + BLOCK_LEN * b, t, start_flag(b as u32));
+        let next = compress4(h, &s[BLOCK_LEN * b..], t, start_flag(b as u32));
         h = next;
     }
-    compress4(h, s, at + LAST_BLOCK_START, t, CHUNK_END)
+    compress4(h, &s[LAST_BLOCK_START..], t, CHUNK_END)
 }

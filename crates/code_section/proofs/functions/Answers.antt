@@ -11,4 +11,4 @@ returns-in_err-read_from c =
     rw (e.1, e.2) (lookup_ok _ _ _ _ _ _ c.in_ok-section_cut.ensures (refused-then _ (λ v. tt) _ _ c.in_err-read_from.ensures))
 
 pub returns : goal.returns
-returns c = lookup_ok _ _ _ _ _ _ c.in_ok-section_cut.ensures (code-good _ _ _ (code-long _ _ c.in_ok-read_from.ensures))
+returns c = rw c.directory.ensures (lookup_ok _ _ _ _ _ _ c.in_ok-section_cut.ensures (code-good _ _ _ (code-long _ _ c.in_ok-read_from.ensures)))

@@ -1,5 +1,5 @@
 -- `compression::join` meets its contract: the first half is `l`, and the second `r`.
-use Rattle.std.proofs.Common.{◌≡◌, ◌≤◌, ℕ, List, [], ◌++◌, length, take, drop, replicate, ◌∙◌, sym, ap₂, arith, rules, append-nil, length-append, take-append-drop, drop_of_length-le}
+use Rattle.std.proofs.Common.{◌≡◌, ℕ, List, [], ◌++◌, length, take, drop, replicate, ◌∙◌, sym, ap₂, arith, rules, append-nil, length-append, take-append-drop, drop_of_length-le}
 use Rattle.std.proofs.lemmas.Slice.{take-put_mid, drop-put_mid}
 use Rattle.std.proofs.lemmas.List.{take-append-le}
 use Rattle.std.proofs.Math.Seq.{take_all}

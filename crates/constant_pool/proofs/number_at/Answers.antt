@@ -9,6 +9,12 @@ returns-in-8 c = let a = c.args in part_filled a.s.now a.at a.size (omega arith)
 pub returns-in-4 : goal.returns-in-4
 returns-in-4 c = let a = c.args in part_filled a.s.now a.at a.size (omega arith) (omega arith) 4 _ (λ i. omega (arith, c.type_inv.s i)) c.in-4.is c.u32_at.ensures
 
+pub returns-in-2 : goal.returns-in-2
+returns-in-2 c = let a = c.args in part_filled a.s.now a.at a.size (omega arith) (omega arith) 2 _ (λ i. omega (arith, c.type_inv.s i)) c.in-2.is c.u16_at.ensures
+
+pub returns-in-1 : goal.returns-in-1
+returns-in-1 c = let a = c.args in part_filled a.s.now a.at a.size (omega arith) (omega arith) 1 _ (λ i. omega (arith, c.type_inv.s i)) c.in-1.is c.u8_at.ensures
+
 pub returns-in_default : goal.returns-in_default
 returns-in_default c =
     let a = c.args in

@@ -6,9 +6,6 @@ use Rattle.container.specs.Sections.{in_force_at}
 use Rattle.container.proofs.Parts.{rows-nowhere, rows-there}
 use Rattle.container.proofs.in_force_of.Goals as goal
 
-pub returns-in-None : goal.returns-in-None
-returns-in-None c = rw c.in-None.is c.none_in_force-in-None.ensures
-
 pub returns-in-Err : goal.returns-in-Err
 returns-in-Err c =
     let a = c.args in

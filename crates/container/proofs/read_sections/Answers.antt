@@ -6,12 +6,6 @@ use Rattle.container.proofs.Parts.{rows-found}
 use Rattle.container.proofs.Loading.{tasks-refused, types-refused, constants-refused, code-refused, all_found}
 use Rattle.container.proofs.read_sections.Goals as goal
 
-pub types_of-requires : goal.types_of-requires
-types_of-requires c = c.requires.short
-
-pub debug_of-debug-requires : goal.debug_of-debug-requires
-debug_of-debug-requires c = c.requires.short
-
 pub returns-in_err-tasks : goal.returns-in_err-tasks
 returns-in_err-tasks c =
     let e = err_from_is_err_and c.from_residual.result c.from_residual.ensures.1 in

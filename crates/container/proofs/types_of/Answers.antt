@@ -3,9 +3,6 @@ use Rattle.header.specs.Answers.{header_in}
 use Rattle.container.proofs.Parts.{types-unsized, types-unflagged, types-there}
 use Rattle.container.proofs.types_of.Goals as goal
 
-pub types_at-requires : goal.types_at-requires
-types_at-requires c = c.requires
-
 pub returns-then-types-eq0 : goal.returns-then-types-eq0
 returns-then-types-eq0 c = types-unsized c.args.file.now (header_in c.args.header) c.if-types-eq0.true
 

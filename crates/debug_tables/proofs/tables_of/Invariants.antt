@@ -2,5 +2,5 @@
 use Rattle.debug_tables.proofs.Rows.{RowsDone}
 use Rattle.debug_tables.proofs.tables_of.Given as goal
 
-abbrev pub invariant-loop-i : goal.invariant-loop-i
-invariant-loop-i l = RowsDone l.cut.bytes.now l.n l.p l.i l.tables
+abbrev pub invariant-loop-row : goal.invariant-loop-row
+invariant-loop-row l = RowsDone l.cut.bytes.now l.rows l.p l.row-index l.tables

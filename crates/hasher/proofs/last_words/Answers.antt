@@ -1,7 +1,6 @@
 -- `hasher::last_words` meets its contract: zeros after the end change no word.
-use mathlib.Core.Path.{ap, ◌∙◌}
-use Prim.Native.Nat.{◌-◌}
-use lib.ListN.{length, drop}
+use Rattle.std.proofs.Common.{◌≡◌, ℕ, ◌++◌, ◌-◌, length, drop, replicate, ◌∙◌}
+use Rattle.reading.proofs.Parts.{drop-replicate}
 use Rattle.compression.specs.Sizes.{block_len}
 use Rattle.compression.specs.Word.{words}
 use Rattle.compression.specs.Laws.{words-filled}
@@ -9,5 +8,6 @@ use Rattle.hasher.proofs.last_words.Goals as goal
 
 pub returns : goal.returns
 returns c =
-    let a = c.args in
-    c.words_of.ensures ∙ ap words c.rest_of.ensures ∙ words-filled (drop a.at a.s.now) (block_len - (length a.s.now - a.at))
+    let s = c.args.s.now in
+    let held : c.block_words-2.result ≡ words (s ++ drop (length s) (replicate block_len 0)) = rw c.copy_from_slice.ensures.after at c.block_words-2.ensures in
+    held ∙ rw (drop-replicate {A = ℕ} (length s) block_len 0) (words-filled s (block_len - length s))

@@ -1,24 +1,19 @@
--- `line_map::line` meets its contract: all entries have one size, so entry k stands at k times that.
-use Rattle.std.proofs.lemmas.Result.{err_from_is_err_and}
-use Rattle.line_map.proofs.Entries.{map-is, in-refused, line-out, line-found}
+-- `line_map::line` meets its contract: all entries have one size, so entry k is row k.
+use mathlib.Core.List.{[]}
+use Rattle.std.proofs.Common.{◌∙◌, ap}
+use Rattle.format.specs.Faults.{no_entry}
+use Rattle.reading.specs.Answer.{found, indexed}
+use Rattle.line_map.specs.Map.{line_of}
+use Rattle.line_map.proofs.Entries.{in_lines-found, line-past, line-found}
 use Rattle.line_map.proofs.line.Goals as goal
 
-pub returns-in_err-map : goal.returns-in_err-map
-returns-in_err-map c =
+pub returns-in_default : goal.returns-in_default
+returns-in_default c =
     let a = c.args in
-    let e = err_from_is_err_and c.from_residual.result c.from_residual.ensures.1 in
-    rw (e.1, e.2) (in-refused a.s.now a.at a.n _ _ c.in_err-map.ensures)
-
-pub returns-then-n-k : goal.returns-then-n-k
-returns-then-n-k c =
-    let a = c.args in
-    let m = c.in_ok-map.map in
-    let k = map-is a.s.now a.at a.n _ c.in_ok-map.ensures in
-    rw (k.0, k.1, k.2) (line-out m.s.now m.at m.n m.whole a.k (rw k.2 at c.if-n-k.true))
+    line-past c.in_ok-map_at.field-0.now a.k c.in_default.ensures.lookup.3 ∙ in_lines-found a.s.now a.t.at a.t.count (λ es. indexed no_entry es a.k) _ c.in_ok-map_at.ensures
 
 pub returns : goal.returns
 returns c =
     let a = c.args in
-    let m = c.in_ok-map.map in
-    let k = map-is a.s.now a.at a.n _ c.in_ok-map.ensures in
-    rw (k.0, k.1, k.2) (line-found m.s.now m.at m.n m.whole a.k _ (rw k.2 at c.if-n-k.false) c.entry.ensures)
+    let q = c.in-Some.ensures.lookup.3 in
+    ap found (c.entry_of.ensures ∙ ap line_of (q.1 [])) ∙ line-found c.in_ok-map_at.field-0.now a.k q.0 ∙ in_lines-found a.s.now a.t.at a.t.count (λ es. indexed no_entry es a.k) _ c.in_ok-map_at.ensures

@@ -6,4 +6,4 @@ use Rattle.table_lines.proofs.put_arrays.Goals as goal
 pub returns : goal.returns
 returns c =
     let a = c.args in
-    rw (← arrays-start a.file.now (container_in a.c), ← c.arrays-start.ensures) c.put_from.ensures
+    rw (← arrays-start a.file.now (container_in a.c), ← c.arrays.ensures) c.put_from.ensures

@@ -6,4 +6,4 @@ use Rattle.table_lines.proofs.put_constants.Goals as goal
 pub returns : goal.returns
 returns c =
     let a = c.args in
-    rw (← constants-start a.file.now (container_in a.c), ← c.constants-start.ensures) c.put_from.ensures
+    rw (← constants-start a.file.now (container_in a.c), ← c.constants.ensures) c.put_from.ensures

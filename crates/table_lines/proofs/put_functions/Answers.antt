@@ -6,4 +6,4 @@ use Rattle.table_lines.proofs.put_functions.Goals as goal
 pub returns : goal.returns
 returns c =
     let a = c.args in
-    rw (← functions-start a.file.now (container_in a.c), ← c.functions-start.ensures) c.put_from.ensures
+    rw (← functions-start a.file.now (container_in a.c), ← c.functions.ensures) c.put_from.ensures

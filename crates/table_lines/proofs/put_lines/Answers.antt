@@ -6,4 +6,4 @@ use Rattle.table_lines.proofs.put_lines.Goals as goal
 pub returns : goal.returns
 returns c =
     let a = c.args in
-    rw (← lines_start a.file.now (container_in a.c), ← c.lines-start.ensures) c.put_from.ensures
+    rw (← lines_start a.file.now (container_in a.c), ← c.lines.ensures) c.put_from.ensures

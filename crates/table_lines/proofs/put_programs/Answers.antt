@@ -6,4 +6,4 @@ use Rattle.table_lines.proofs.put_programs.Goals as goal
 pub returns : goal.returns
 returns c =
     let a = c.args in
-    rw (← programs-start a.file.now (container_in a.c), ← c.programs-start.ensures) c.put_from.ensures
+    rw (← programs-start a.file.now (container_in a.c), ← c.programs.ensures) c.put_from.ensures

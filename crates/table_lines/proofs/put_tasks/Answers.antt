@@ -6,4 +6,4 @@ use Rattle.table_lines.proofs.put_tasks.Goals as goal
 pub returns : goal.returns
 returns c =
     let a = c.args in
-    rw (← tasks-start a.file.now (container_in a.c), ← c.tasks-start.ensures) c.put_from.ensures
+    rw (← tasks-start a.file.now (container_in a.c), ← c.tasks.ensures) c.put_from.ensures

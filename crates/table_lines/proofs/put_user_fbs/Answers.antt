@@ -6,4 +6,4 @@ use Rattle.table_lines.proofs.put_user_fbs.Goals as goal
 pub returns : goal.returns
 returns c =
     let a = c.args in
-    rw (← user-fbs-start a.file.now (container_in a.c), ← c.user_fbs-start.ensures) c.put_from.ensures
+    rw (← user-fbs-start a.file.now (container_in a.c), ← c.user_fbs.ensures) c.put_from.ensures

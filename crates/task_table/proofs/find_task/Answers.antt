@@ -1,15 +1,16 @@
--- `task_table::find_task` meets its contract: the task at an index stands behind the header and the tasks before it.
+-- `task_table::find_task` meets its contract: the entry at an index of the table.
+use Rattle.std.proofs.Common.{◌∙◌}
 use Rattle.std.proofs.lemmas.Result.{err_from_is_err_and}
-use Rattle.task_table.proofs.Tables.{task-out, task-found}
+use Rattle.base.specs.Error.{fault_of}
+use Rattle.base.proofs.Entries.{or_out}
+use Rattle.task_table.specs.Answers.{task_in}
+use Rattle.task_table.proofs.Tables.{task-is}
 use Rattle.task_table.proofs.find_task.Goals as goal
 
-pub returns-then-counts-index : goal.returns-then-counts-index
-returns-then-counts-index c = task-out _ _ c.in_ok-counts.ensures _ c.if-counts-index.true
-
-pub returns-in_err-read : goal.returns-in_err-read
-returns-in_err-read c =
-    let e = err_from_is_err_and c.from_residual-in_err-read.result c.from_residual-in_err-read.ensures.1 in
-    rw (e.1, e.2) (task-found _ _ c.in_ok-counts.ensures _ c.if-counts-index.false _ c.in_err-read.ensures)
+pub returns-in_err-find_by_width : goal.returns-in_err-find_by_width
+returns-in_err-find_by_width c =
+    let e = err_from_is_err_and c.from_residual-in_err-find_by_width.result c.from_residual-in_err-find_by_width.ensures.1 in
+    rw (e.1, e.2) (task-is _ _ c.in_ok-read_from.ensures _ _ λ xs rest d. c.in_err-find_by_width.ensures xs rest (rw c.task_entries-tasks.ensures d) _)
 
 pub returns : goal.returns
-returns c = task-found _ _ c.in_ok-counts.ensures _ c.if-counts-index.false _ c.in_ok-read.ensures
+returns c = rw c.ok_or.ensures.value (task-is _ _ c.in_ok-read_from.ensures _ _ λ xs rest d. or_out fault_of task_in _ _ ∙ c.in_ok-find_by_width.ensures xs rest (rw c.task_entries-tasks.ensures d) _)

@@ -1,9 +1,12 @@
--- `task_table::read_from` meets its contract: the header, the walk over the tasks, and room for the programs.
-use Rattle.std.proofs.Common.{arith}
+-- `task_table::read_from` meets its contract: the header, the walk over the tasks, and the programs behind them.
+use Rattle.std.proofs.Common.{refl, ap, ◌∙◌, arith}
 use Rattle.std.proofs.lemmas.Result.{err_from_is_err_and}
 use Rattle.reading.proofs.Given.{goes_at}
 use Rattle.reading.proofs.Left.{stays-local, stays-many}
-use Rattle.format.proofs.Readers.{local-task}
+use Rattle.base.specs.Answers.{way_by}
+use Rattle.base.specs.Error.{fault_of}
+use Rattle.base.proofs.Entries.{or_there}
+use Rattle.format.proofs.Readers.{local-task, local-program}
 use Rattle.task_table.proofs.Tables.{table-needs, table-stop, table-short, table-whole}
 use Rattle.task_table.proofs.read_from.Goals as goal
 
@@ -16,12 +19,15 @@ returns-in_err-p c =
     let w = goes_at (stays-many _ _ (stays-local _ local-task)) _ c.in_err-p.ensures in
     rw (e.1, e.2) (table-stop _ _ _ _ (omega arith) c.u16_at-tasks.ensures c.u16_at-programs.ensures c.u16_at-shared_globals_size.ensures _ w)
 
-pub returns-then-left-programs : goal.returns-then-left-programs
-returns-then-left-programs c =
+pub returns-in_err-ok_or : goal.returns-in_err-ok_or
+returns-in_err-ok_or c =
+    let e = err_from_is_err_and c.from_residual-in_err-ok_or.result c.from_residual-in_err-ok_or.ensures.1 in
     let w = goes_at (stays-many _ _ (stays-local _ local-task)) _ c.in_ok-p.ensures in
-    table-short _ _ _ _ (omega arith) c.u16_at-tasks.ensures c.u16_at-programs.ensures c.u16_at-shared_globals_size.ensures _ w (omega arith)
+    let q = ap (way_by fault_of) c.in_err-ok_or.ensures.value ∙ or_there fault_of _ refl _ ∙ c.pass.ensures in
+    rw (e.1, e.2) (table-short _ _ _ _ (omega arith) c.u16_at-tasks.ensures c.u16_at-programs.ensures c.u16_at-shared_globals_size.ensures _ w _ (goes_at (stays-many _ _ (stays-local _ local-program)) _ q))
 
 pub returns : goal.returns
 returns c =
     let w = goes_at (stays-many _ _ (stays-local _ local-task)) _ c.in_ok-p.ensures in
-    table-whole _ _ _ _ (omega arith) c.u16_at-tasks.ensures c.u16_at-programs.ensures c.u16_at-shared_globals_size.ensures _ w (omega arith)
+    let q = ap (way_by fault_of) c.in_ok-ok_or.ensures.value ∙ or_there fault_of _ refl _ ∙ c.pass.ensures in
+    table-whole _ _ _ _ (omega arith) c.u16_at-tasks.ensures c.u16_at-programs.ensures c.u16_at-shared_globals_size.ensures _ w _ (goes_at (stays-many _ _ (stays-local _ local-program)) _ q)

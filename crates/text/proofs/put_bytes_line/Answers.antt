@@ -14,4 +14,4 @@ pub overflow_add-end : goal.overflow_add-end
 overflow_add-end c = omega (arith, hex_most c.args.bytes.now 18446744073709551613 (omega arith) (omega arith))
 
 pub returns : goal.returns
-returns c = puts-wrote (wrote_then (wrote_then c.put_ended-next.ensures c.put_hex_or_dash-next.ensures) c.put_byte.ensures)
+returns c = puts-wrote (wrote_then (wrote_then c.put_ended-next.ensures c.put_hex_or_dash-next.ensures) c.put.ensures)

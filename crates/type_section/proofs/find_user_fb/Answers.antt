@@ -3,11 +3,9 @@ use Rattle.std.proofs.Common.{◌∙◌}
 use Rattle.std.proofs.lemmas.Result.{err_from_is_err_and}
 use Rattle.base.specs.Error.{fault_of}
 use Rattle.type_entries.specs.Answers.{user_fb_in}
-use Rattle.type_section.proofs.Finding.{or_out, users-hold, user-fb-is}
+use Rattle.base.proofs.Entries.{or_out}
+use Rattle.type_section.proofs.Finding.{user-fb-is}
 use Rattle.type_section.proofs.find_user_fb.Goals as goal
-
-pub find_by_width-requires : goal.find_by_width-requires
-find_by_width-requires c = users-hold _ _ c.in_ok-t.ensures.read
 
 pub returns-in_err-find_by_width : goal.returns-in_err-find_by_width
 returns-in_err-find_by_width c =

@@ -13,8 +13,8 @@ returns-in_err-fb_type c =
 pub returns-in_default : goal.returns-in_default
 returns-in_default c = fb-type-step _ _ ends (rw c.in_default.is at c.in_ok-fb_type.ensures)
 
-pub fields-requires : goal.fields-requires
-fields-requires c = let a = c.args in omega (arith, a.cut.in_file, step-room a.cut.bytes.now a.t _ _ (rw c.in-Some.is at c.in_ok-fb_type.ensures))
-
 pub returns : goal.returns
-returns c = rw c.fields.ensures (fb-type-step _ _ (entry _ _) (rw c.in-Some.is at c.in_ok-fb_type.ensures))
+returns c =
+    let a = c.args in
+    let room = step-room a.cut.bytes.now a.t _ _ (rw c.in-Some.is at c.in_ok-fb_type.ensures) in
+    rw (c.fields.ensures (omega (arith, a.cut.in_file, room))) (fb-type-step _ _ (entry _ _) (rw c.in-Some.is at c.in_ok-fb_type.ensures))

@@ -1,17 +1,16 @@
--- `utf8::past_ascii` meets its contract: both loops keep it, and the measure is what is left of the text. Assumes nothing.
-use Prim.Native.Nat.{◌-◌}
+-- `utf8::past_ascii` meets its contract: what is left has been reached by whole sequences, and gets shorter. Assumes nothing.
 use lib.ListN.{length}
-use Rattle.utf8.specs.Utf8.{Reached}
+use Rattle.utf8.specs.Utf8.{Passed}
 use Rattle.utf8.proofs.past_ascii.Given as goal
 
-abbrev pub invariant-loop-i : goal.invariant-loop-i
-invariant-loop-i l = Reached l.s l.at l.i
+abbrev pub invariant-loop-rest : goal.invariant-loop-rest
+invariant-loop-rest l = Passed l.s l.rest
 
-abbrev pub decreases-loop-i : goal.decreases-loop-i
-decreases-loop-i l = length l.s - l.i
+abbrev pub decreases-loop-rest : goal.decreases-loop-rest
+decreases-loop-rest l = length l.rest
 
-abbrev pub invariant-loop-i-2 : goal.invariant-loop-i-2
-invariant-loop-i-2 l = Reached l.s l.at l.i
+abbrev pub invariant-loop-rest-2 : goal.invariant-loop-rest-2
+invariant-loop-rest-2 l = Passed l.s l.rest
 
-abbrev pub decreases-loop-i-2 : goal.decreases-loop-i-2
-decreases-loop-i-2 l = length l.s - l.i
+abbrev pub decreases-loop-rest-2 : goal.decreases-loop-rest-2
+decreases-loop-rest-2 l = length l.rest

@@ -1,35 +1,25 @@
-use mathlib.Core.Path.{sym, ◌∙◌}
-use native.Mathlib.Omega.{arith}
-use lib.ListN.{drop}
-use Rattle.utf8.proofs.Longest.{valid-none, reached_then, turn}
-use Rattle.utf8.proofs.Ascii.{further}
+use mathlib.Core.List.{[], ◌∷◌, Memᴰ}
+use mathlib.Core.Path.{refl}
+use lib.Dec.{T}
+use Rattle.utf8.specs.Utf8.{◌to◌, starts}
+use Rattle.utf8.proofs.Table.{to_end}
+use Rattle.utf8.proofs.Passing.{ascii_run, passed_more, passed_then}
 use Rattle.utf8.proofs.valid_up_to.Goals as goal
 
-pub loop-i-preserved-then-has : goal.loop-i-preserved-then-has
-loop-i-preserved-then-has c = reached_then _ _ _ _ c.loop-i.invariant c.past_ascii-i.ensures.0
+pub past_alike-rest-requires-clause-row : goal.past_alike-rest-requires-clause-row
+past_alike-rest-requires-clause-row c = Memᴰ.tail (Memᴰ.head refl)
 
-pub loop-i-smaller-then-has : goal.loop-i-smaller-then-has
-loop-i-smaller-then-has c =
-    let a = c.args in
-    let l = c.loop-i in
-    let n = further a.s.now l.i c.past_ascii-i.result _ c.has.ensures c.if-has.true c.past_ascii-i.ensures.1 in
-    omega (arith, c.past_ascii-i.ensures.0)
+pub past_alike-rest-requires-in_default-n-clause-row : goal.past_alike-rest-requires-in_default-n-clause-row
+past_alike-rest-requires-in_default-n-clause-row c = Memᴰ.tail (Memᴰ.tail (Memᴰ.tail (Memᴰ.head refl)))
 
-pub past_alike-i-requires : goal.past_alike-i-requires
-past_alike-i-requires c = (turn _ _ _ _ c.loop-i.invariant c.sequence-n.ensures c.if-n-eq0.false).1
+pub loop-rest-preserved-then-has : goal.loop-rest-preserved-then-has
+loop-rest-preserved-then-has c =
+    let l = c.loop-rest in
+    let t : T (starts (0x00 to 0x7F ∷ []) l.rest.now) = rw (← c.if-has.ensures) tt in
+    passed_then (ascii_run 1 _ _ l.invariant t) (rw to_end at c.past_ascii-rest.ensures)
 
-pub overflow_add-i : goal.overflow_add-i
-overflow_add-i c = omega (arith, (turn _ _ _ _ c.loop-i.invariant c.sequence-n.ensures c.if-n-eq0.false).1)
+pub loop-rest-preserved-in-2 : goal.loop-rest-preserved-in-2
+loop-rest-preserved-in-2 c = passed_then (passed_more c.loop-rest.invariant c.in-Some.ensures) (rw to_end at c.past_alike-rest.ensures)
 
-pub loop-i-preserved : goal.loop-i-preserved
-loop-i-preserved c =
-    reached_then _ _ _ _ (turn _ _ _ _ c.loop-i.invariant c.sequence-n.ensures c.if-n-eq0.false) c.past_alike-i.ensures
-
-pub loop-i-smaller : goal.loop-i-smaller
-loop-i-smaller c = let z = c.if-n-eq0.false in omega (arith, c.past_alike-i.ensures, (loop-i-preserved c).1)
-
-pub returns : goal.returns
-returns c =
-    let a = c.args in
-    let l = c.loop-i in
-    omega (arith, valid-none (drop l.i a.s.now) (sym c.sequence-n.ensures ∙ c.if-n-eq0.true))
+pub loop-rest-preserved : goal.loop-rest-preserved
+loop-rest-preserved c = passed_then (passed_more c.loop-rest.invariant c.in-Some.ensures) (rw to_end at c.past_alike-rest-in_default-n.ensures)

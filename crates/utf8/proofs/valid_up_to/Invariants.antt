@@ -1,11 +1,10 @@
--- `utf8::valid_up_to` meets its contract. The measure is what is left of the text. Assumes nothing.
-use Prim.Native.Nat.{◌-◌}
+-- `utf8::valid_up_to` meets its contract: what is left has been reached by whole sequences, and gets shorter. Assumes nothing.
 use lib.ListN.{length}
-use Rattle.utf8.specs.Utf8.{Reached}
+use Rattle.utf8.specs.Utf8.{Passed}
 use Rattle.utf8.proofs.valid_up_to.Given as goal
 
-abbrev pub invariant-loop-i : goal.invariant-loop-i
-invariant-loop-i l = Reached l.s 0 l.i
+abbrev pub invariant-loop-rest : goal.invariant-loop-rest
+invariant-loop-rest l = Passed l.s l.rest
 
-abbrev pub decreases-loop-i : goal.decreases-loop-i
-decreases-loop-i l = length l.s - l.i
+abbrev pub decreases-loop-rest : goal.decreases-loop-rest
+decreases-loop-rest l = length l.rest

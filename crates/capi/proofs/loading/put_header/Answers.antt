@@ -4,5 +4,5 @@ use Rattle.capi.proofs.loading.put_header.Goals as goal
 
 pub returns : goal.returns
 returns c =
-    wrote_as (rw (c.head-first.ensures, c.directory-places.ensures, c.runtime-numbers.ensures))
+    wrote_as (rw (c.head.ensures, c.directory.ensures, c.runtime.ensures))
     (wrote_then (wrote_then c.put-n.ensures c.put-m.ensures) c.put.ensures)

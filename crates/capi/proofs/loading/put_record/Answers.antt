@@ -14,4 +14,4 @@ put-requires c =
     omega (arith, (laws.how-many (container_in c.args.c)).0)
 
 pub returns : goal.returns
-returns c = wrote_as (rw c.in_force-rows.ensures) (wrote_then c.put_lookup_numbers-n.ensures c.put.ensures)
+returns c = wrote_as (rw c.in_force.ensures) (wrote_then c.put_lookup_numbers-n.ensures c.put.ensures)

@@ -1,7 +1,7 @@
 -- `FuncEntry::read` meets its contract: too few bytes, or the function that stands there.
 use Rattle.std.proofs.Common.{arith}
 use Rattle.base.proofs.Entries.{read_short, read_ok}
-use Rattle.code_section.proofs.Entries.{function-fixed}
+use Rattle.format.proofs.Widths.{function-fixed}
 use Rattle.code_section.proofs.FuncEntryEntry.read.Goals as goal
 
 pub returns-then-left-lt-FUNC_ENTRY_SIZE : goal.returns-then-left-lt-FUNC_ENTRY_SIZE

@@ -1,42 +1,18 @@
-use native.Mathlib.Omega.{arith}
-use borrow.Author.Tests.{ltb-true}
-use Rattle.hasher.proofs.Stacking.{join-none, join_step, push-stored, push-lost}
-use borrow.Author.Rules.{rules}
+-- `hasher::CvStack::push` meets its contract.
+use Rattle.std.proofs.Common.{◌≡◌, ◌-◌, min, ap, ◌∙◌, arith, rules}
+use Rattle.std.proofs.Math.ListN.{drop}
+use Rattle.hasher.specs.Stack.{levels, values_of, joined}
+use Rattle.hasher.proofs.Stacking.{newest, push-stored, push-lost}
 use Rattle.hasher.proofs.CvStack.push.Goals as goal
-use Rattle.hasher.proofs.CvStack.push.Goals.{then-loop-left-test+else-n-gt0, else-loop-left-test}
-
-pub loop-left-init : goal.loop-left-init
-loop-left-init c = (
-  search rules,
-  search rules,
-  search rules,
-  search rules,
-  join-none c.args.c c.least-n.result c.args.self.values,
-)
-
-pub overflow_sub-n : goal.overflow_sub-n
-overflow_sub-n c = omega (arith, ltb-true)
-
-pub loop-left-preserved : goal.loop-left-preserved
-loop-left-preserved c =
-    let a = c.args in
-    let l = c.loop-left in (
-      omega (arith, ltb-true),
-      search rules,
-      search rules,
-      search rules,
-      join_step a.c l.n c.least-n.result a.self.values _ (omega (arith, ltb-true)) (search rules) (search rules)
-          l.invariant.4 c.parent_output-output.ensures c.chaining_value-both.ensures,
-    )
-
-pub returns-then-n-lt-LEVELS : goal.returns-then-n-lt-LEVELS
-returns-then-n-lt-LEVELS c =
-    let a = c.args in
-    let l = c.loop-left in
-    push-stored a.self a.joins l.n a.c l.v (search rules) (elim c.loop-left-test.branch [ then-loop-left-test+else-n-gt0 w ↦ omega arith | else-loop-left-test w ↦ omega arith ]) (cc) (search rules)
+use Rattle.hasher.proofs.CvStack.push.Goals.{then-place-lt-LEVELS, else-place-lt-LEVELS}
 
 pub returns : goal.returns
 returns c =
     let a = c.args in
-    let l = c.loop-left in
-    push-lost a.self a.joins l.n a.c l.v (search rules) (elim c.loop-left-test.branch [ then-loop-left-test+else-n-gt0 w ↦ omega arith | else-loop-left-test w ↦ omega arith ]) (cc) (search rules)
+    let n = c.saturating_sub-place.result in
+    let e : n ≡ min a.self.len levels - a.joins = cc in
+    let q : c.joined-words.result ≡ joined a.cv (drop n (values_of a.self)) = c.joined-words.ensures ∙ ap (joined a.cv) (newest a.self n (c.min-len.result - n) (search rules) (omega arith)) in
+    elim c.if-place-lt-LEVELS.branch [
+      | then-place-lt-LEVELS w ↦ cc (push-stored a.self a.joins n a.cv c.joined-words.result (search rules) e q)
+      | else-place-lt-LEVELS w ↦ cc (push-lost a.self a.joins n a.cv c.joined-words.result (search rules) e q (omega arith))
+    ]

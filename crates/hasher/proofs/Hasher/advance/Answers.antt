@@ -24,4 +24,4 @@ returns-then-self c = let a = c.args in cc (advanced-block a.self a.block_words 
 pub returns : goal.returns
 returns c =
     let a = c.args in
-    finishes a.self a.block_words (search rules) c.output-last.ensures.0 c.chaining_value.ensures c.chunk_done.ensures
+    finishes a.self a.block_words (search rules) c.output-last.ensures c.chaining_value.ensures c.chunk_done.ensures

@@ -4,4 +4,4 @@ use Rattle.hasher.proofs.Hasher.take_chunk.Goals as goal
 
 pub returns : goal.returns
 unfolding chunks_done
-returns c = cc (c.chunk_done.ensures, c.chunk_value-value.ensures, c.counter.ensures)
+returns c = cc (c.chunk_done.ensures, c.chunk_value.ensures, c.counter.ensures)

@@ -1,11 +1,9 @@
 -- `LineMapEntry::read` meets its contract: too few bytes, or the entry that stands there.
-use Rattle.std.proofs.Common.{arith}
-use Rattle.base.proofs.Entries.{read_short, read_ok}
-use Rattle.line_map.proofs.Entries.{line-fixed}
+use Rattle.line_map.proofs.Entries.{line-out, line-in}
 use Rattle.line_map.proofs.LineMapEntryEntry.read.Goals as goal
 
-pub returns-then-left-lt-LINE_MAP_ENTRY_SIZE : goal.returns-then-left-lt-LINE_MAP_ENTRY_SIZE
-returns-then-left-lt-LINE_MAP_ENTRY_SIZE c = read_short _ c.args.cut.bytes.now line-fixed.short c.args.at (omega arith)
+pub returns-in_default : goal.returns-in_default
+returns-in_default c = line-out _ c.args.at _ c.min.ensures c.in_default.ensures.cases
 
 pub returns : goal.returns
-returns c = read_ok _ _ c.args.at _ _ (omega arith) c.entry_at.ensures
+returns c = line-in c.args.cut.bytes.now c.args.at _ c.min.ensures _ c.in-Some.ensures.cases.enough c.in-Some.ensures.cases.same c.entry_of.ensures

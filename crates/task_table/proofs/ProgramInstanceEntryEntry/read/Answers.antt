@@ -1,7 +1,7 @@
 -- `ProgramInstanceEntry::read` meets its contract: too few bytes, or the program that stands there.
 use Rattle.std.proofs.Common.{arith}
 use Rattle.base.proofs.Entries.{read_short, read_ok}
-use Rattle.task_table.proofs.Entries.{program-fixed}
+use Rattle.format.proofs.Widths.{program-fixed}
 use Rattle.task_table.proofs.ProgramInstanceEntryEntry.read.Goals as goal
 
 pub returns-then-left-lt-PROGRAM_INSTANCE_ENTRY_SIZE : goal.returns-then-left-lt-PROGRAM_INSTANCE_ENTRY_SIZE

@@ -2,7 +2,8 @@
 use Rattle.std.proofs.Common.{◌∙◌, ap, arith}
 use Rattle.base.specs.Small.{task_type_of}
 use Rattle.base.proofs.Entries.{read_short, read_err, read_ok}
-use Rattle.task_table.proofs.Entries.{task-needs, task-stop, type-known}
+use Rattle.format.proofs.Widths.{task-needs}
+use Rattle.task_table.proofs.Entries.{task-stop, type-known}
 use Rattle.std.proofs.lemmas.Result.{err_from_is_err_and}
 use Rattle.task_table.proofs.TaskEntryEntry.read.Goals as goal
 

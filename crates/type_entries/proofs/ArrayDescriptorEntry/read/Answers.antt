@@ -2,7 +2,8 @@
 use Rattle.std.proofs.Common.{arith}
 use Rattle.std.proofs.lemmas.Result.{err_from_is_err_and}
 use Rattle.base.proofs.Entries.{read_short, read_err, read_ok}
-use Rattle.type_entries.proofs.Entries.{array-needs, array-stop, array-whole}
+use Rattle.format.proofs.Widths.{array-needs}
+use Rattle.type_entries.proofs.Entries.{array-stop, array-whole}
 use Rattle.type_entries.proofs.ArrayDescriptorEntry.read.Goals as goal
 
 pub returns-then-left-lt-ARRAY_DESCRIPTOR_SIZE : goal.returns-then-left-lt-ARRAY_DESCRIPTOR_SIZE

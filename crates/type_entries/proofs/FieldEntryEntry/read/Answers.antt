@@ -3,7 +3,8 @@ use Rattle.std.proofs.Common.{◌∙◌, ap, arith}
 use Rattle.std.proofs.lemmas.Result.{err_from_is_err_and}
 use Rattle.base.specs.Small.{field_type_of}
 use Rattle.base.proofs.Entries.{read_short, read_err, read_ok}
-use Rattle.type_entries.proofs.Entries.{field-needs, field-stop, field-whole}
+use Rattle.format.proofs.Widths.{field-needs}
+use Rattle.type_entries.proofs.Entries.{field-stop, field-whole}
 use Rattle.type_entries.proofs.FieldEntryEntry.read.Goals as goal
 
 pub returns-then-left-lt-FIELD_ENTRY_SIZE : goal.returns-then-left-lt-FIELD_ENTRY_SIZE

@@ -1,7 +1,8 @@
 -- `UserFbDescriptor::read` meets its contract: too few bytes, or the user FB that stands there.
 use Rattle.std.proofs.Common.{arith}
 use Rattle.base.proofs.Entries.{read_short, read_ok}
-use Rattle.type_entries.proofs.Entries.{user-fb-fixed, user-fb-whole}
+use Rattle.format.proofs.Widths.{user-fb-fixed}
+use Rattle.type_entries.proofs.Entries.{user-fb-whole}
 use Rattle.type_entries.proofs.UserFbDescriptorEntry.read.Goals as goal
 
 pub returns-then-left-lt-USER_FB_DESCRIPTOR_SIZE : goal.returns-then-left-lt-USER_FB_DESCRIPTOR_SIZE

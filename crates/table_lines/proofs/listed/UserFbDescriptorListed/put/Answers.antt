@@ -1,0 +1,6 @@
+-- `UserFbDescriptor::put` meets its contract: its line is written, or the buffer is as it was.
+use Rattle.lent.proofs.Fitting.{puts-free}
+use Rattle.table_lines.proofs.listed.UserFbDescriptorListed.put.Goals as goal
+
+pub returns : goal.returns
+returns c = puts-free c.put_user_fb.ensures
