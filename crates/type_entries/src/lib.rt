@@ -347,10 +347,11 @@ fn user_fb_table(cut: Cut, at: usize) -> Result<Table, ContainerError>
 }
 
 // The section's reader: its refusal, or the places of its tables. Each count is a number of two bytes.
-pub fn tables_of(cut: Cut) -> Result<Tables, ContainerError>
-    ensures read { got_from as_it_is result ≡ type_starts_in cut.entry.bytes.now }
+pub fn tables_of(s: &[u8]) -> Result<Tables, ContainerError>
+    ensures read { got_from as_it_is result ≡ type_starts_in s.now }
     ensures few { IfOk result (λ t. (t.fb_types.count < 2 ^ 16) × (t.arrays.count < 2 ^ 16) × (t.user_fbs.count < 2 ^ 16)) }
 {
+    let cut = Cut::of(s);
     let (fb_types, behind_fb_types) = table::<FbTypeDescriptor>(cut, 0)?;
     let (arrays, behind_arrays) = table::<ArrayDescriptor>(cut, behind_fb_types)?;
     let user_fbs = user_fb_table(cut, behind_arrays)?;
