@@ -17,7 +17,7 @@ ghost use Rattle.base.specs.Cut.{place_of};
 ghost use Rattle.base.specs.Error.{fault_of};
 ghost use Rattle.base.specs.Small.{byte_width};
 ghost use Rattle.type_entries.specs.Answers.{field_in, fb_type_head_in, fb_type_head, string_width, array_in, stride_checked, user_fb_in, table_at};
-ghost use Rattle.type_entries.specs.Starts.{field_entry_size, fb_type_head_size, array_descriptor_size, user_fb_descriptor_size, head_fields, type_starts_in};
+ghost use Rattle.type_entries.specs.Starts.{field_entry_size, fb_type_head_size, array_descriptor_size, user_fb_descriptor_size, head_fields, fields_anywhere, type_starts_in};
 ghost use Rattle.type_entries.specs.Stays.{fb_type_head_stays};
 
 use base::char_width::CharWidth;
@@ -35,7 +35,7 @@ const COUNT_SIZE: usize = 2;
 pub const FIELD_ENTRY_SIZE: usize = 4;
 
 // The bytes of an FB type without its fields.
-const FB_TYPE_HEAD_SIZE: usize = 4;
+pub const FB_TYPE_HEAD_SIZE: usize = 4;
 
 pub const ARRAY_DESCRIPTOR_SIZE: usize = 12;
 
@@ -194,9 +194,10 @@ impl OneWidth for FieldEntry {
 }
 
 impl FbTypeDescriptor {
-    // The table of its fields, which stand behind its head at the place `at`; the promise is for a place in some section.
+    // The table of its fields, which stand behind its head at the place `at`.
     pub fn fields(self, at: usize) -> Table
-        ensures { at + fb_type_head_size < 2 ^ 64 → result ≡ head_fields at (fb_type_head_in self) }
+        ensures inside { at + fb_type_head_size < 2 ^ 64 → result ≡ head_fields at (fb_type_head_in self) }
+        ensures anywhere { result ≡ fields_anywhere at (fb_type_head_in self) }
     {
         Table {
             at: at.saturating_add(FB_TYPE_HEAD_SIZE),
