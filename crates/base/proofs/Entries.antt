@@ -1,19 +1,21 @@
 -- Walks over the entries of a table, by what the reader of one entry answers.
-use Rattle.std.proofs.Common.{◌≡◌, ℕ, ◌+◌, ◌*◌, ◌-◌, ◌^◌, ◌≤◌, ◌<◌, List, length, drop, refl, sym, ap, ◌∙◌, arith}
+use native.Mathlib.Decide.{dec_le}
+use Rattle.std.proofs.Common.{◌≡◌, ℕ, ◌+◌, ◌*◌, ◌-◌, ◌≤◌, ◌<◌, List, length, drop, refl, sym, ap, ◌∙◌, lt-ltb, le-ltb, arith}
 use Rattle.std.specs.Prelude.{min, Option, Some, None, Ok, ok_or}
-use Rattle.std.proofs.lemmas.List.{drop_min, drop-drop, length-drop}
+use Rattle.std.proofs.lemmas.List.{drop_min, drop_all, drop-drop, length-drop}
 use Rattle.reading.specs.Fault.{Fault, short_input}
-use Rattle.reading.specs.Reader.{fault, got, Reader, many}
-use Rattle.reading.specs.Places.{stops, item, step_at, stops_by, on_to, way_given, way_at, left_of, faulty, entry, step_of}
+use Rattle.reading.specs.Reader.{Read, fault, got, Reader, many}
+use Rattle.reading.specs.Places.{Step, stops, item, step_given, step_at, stops_by, on_to, way_given, way_at, left_of, faulty, entry, step_of}
 use Rattle.reading.specs.declared.Table.{Table}
 use Rattle.reading.proofs.Left.{Stays, stays-many}
 use Rattle.reading.proofs.Given.{reads_at, goes_at, step-at, way-at}
-use Rattle.reading.specs.Answer.{refused, found, indexed}
+use Rattle.reading.specs.Answer.{refused, found, item_of, indexed}
 use Rattle.base.specs.Answers.{got_by, found_by, way_by, way_if_there}
 use Rattle.base.specs.Picked.{picked}
+use Rattle.base.specs.Indexing.{read_by_width}
 use Rattle.base.proofs.Picked.{picked_stop, picked_read}
 use Rattle.reading.proofs.Width.{Width, Needs, Fixed, needs-at, fixed-at, fixed-many}
-use Rattle.reading.proofs.Tables.{At, at_width, at_reads, at-picked, index-out}
+use Rattle.reading.proofs.Tables.{answer_by, At, at_width, at_reads, at-picked, index-out}
 use Rattle.reading.proofs.Passing.{Passed, passed-all, passed-stop, passed-more}
 use Rattle.base.proofs.FileLookups.{step-stops, step-entry}
 
@@ -76,27 +78,44 @@ module _ {A : Type 0} (r : Reader A) (s : List ℕ) {w : ℕ} (h : Fixed w r) (n
       let i : min at (length s) + w * n ≤ length s = omega arith in
       way-at (many n r) s (min at (length s)) (on_to (min at (length s) + w * n)) (i, fixed-at (fixed-many n h) s (min at (length s)) i) ∙ way_near (many n r) s at
 
--- an entry at an index of a table whose entries have one width
+-- an entry at an index of a table whose entries have one width, looked up at the place `m`
 module _ {A : Type 0} (r : Reader A) (s : List ℕ) (t : Table) (k : ℕ) where
   pub width_out : t.count ≤ k → (xs : List A) (rest : List ℕ) → left_of r s t ≡ got xs rest → (out : Fault) → refused out ≡ indexed out xs k
   width_out l xs rest e out = sym (index-out r k t.count (drop t.at s) xs rest out l e)
 
-  module _ (w : ℕ) (q : (0 < w) × Width w r) (l : k < t.count) (xs : List A) (rest : List ℕ) (d : left_of r s t ≡ got xs rest) where
-    there : At r xs k (drop (t.at + w * k) s)
-    there = rw drop-drop at (at_width r q.1 k t.count (drop t.at s) xs rest l d)
+  pub width_none : (w : ℕ) → t.count ≤ k → (out : Fault) → refused out ≡ read_by_width out r w s t k
+  width_none w l out = rw (le-ltb k t.count l)
 
-    width_fits : t.at + w * k + w ≤ length s
-    width_fits = omega (arith, q.0, (q.1.takes (drop (t.at + w * k) s) there.item there.behind there.reads).1, length-drop (t.at + w * k) s)
+  module _ (w : ℕ) (l : k < t.count) (m : ℕ) (z : t.at + w * k < length s → m ≡ t.at + w * k) where
+    module _ (q : (0 < w) × Width w r) (h : Stays s r) (xs : List A) (rest : List ℕ) (d : left_of r s t ≡ got xs rest) where
+      there : At r xs k (drop (t.at + w * k) s)
+      there = rw drop-drop at (at_width r q.1 k t.count (drop t.at s) xs rest l d)
 
-    module _ (u : length s < 2 ^ 64) (h : Stays s r) (m : ℕ) (z : m ≡ min (t.at + min (w * k) (2 ^ 64 - 1)) (2 ^ 64 - 1)) where
       place : m ≡ t.at + w * k
-      place = omega (arith, z, u, width_fits)
+      place = z (omega (arith, q.0, (q.1.takes (drop (t.at + w * k) s) there.item there.behind there.reads).1, length-drop (t.at + w * k) s))
 
       pub width_stop : (f : Fault) → stops f ≡ step_at r s m → (out : Fault) → refused f ≡ indexed out xs k
       width_stop f e out = absurd (at_reads r there f (reads_at h (t.at + w * k) (rw place at e)))
 
       pub width_found : (a : A) (p : ℕ) → item a p ≡ step_at r s m → (out : Fault) → found a ≡ indexed out xs k
       width_found a p e out = sym (at-picked r there a (drop p s) (reads_at h (t.at + w * k) (rw place at e)).1 out)
+
+    -- behind the section nothing stands, wherever
+    module _ (y : length s ≤ t.at + w * k → length s ≤ m) where
+      same-left : drop m s ≡ drop (t.at + w * k) s
+      same-left = go (dec_le (length s) (t.at + w * k))
+        where
+          go : Dec (length s ≤ t.at + w * k) → drop m s ≡ drop (t.at + w * k) s
+          go (yes i) = drop_all m s (y i) ∙ sym (drop_all (t.at + w * k) s i)
+          go (no i) = ap (λ (n : ℕ). drop n s) (z (omega arith))
+
+      pub width_read : (x : Step A) → x ≡ step_at r s m → (out : Fault) → answer_by x ≡ read_by_width out r w s t k
+      unfolding step_at
+      width_read x e out = ap answer_by e ∙ rw (lt-ltb k t.count l, same-left) (go (r (drop (t.at + w * k) s)))
+        where
+          go : (v : Read A) → answer_by (step_given s v) ≡ item_of v
+          go (fault f) = refl
+          go (got a rest) = refl
 
 -- a lookup that may find nothing, once it is said what that means
 pub or_out : {E T A : Type 0} (told : E → Fault) (view : T → A) (e : E) (x : Option T) → got_by told view (ok_or x e) ≡ found_by told view (told e) (Ok x)

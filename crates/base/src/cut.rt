@@ -10,6 +10,14 @@ pub struct Cut<'a> {
 }
 
 impl<'a> Cut<'a> {
+    // Any bytes, by places from their own start.
+    pub fn of(bytes: &'a [u8]) -> Cut<'a>
+        ensures same { result.bytes.now ≡ bytes.now }
+        ensures start { result.offset ≡ 0 }
+    {
+        Cut { bytes, offset: 0 }
+    }
+
     // How many bytes of it stand from the place `at` on.
     pub fn left(self, at: usize) -> usize
         ensures { result ≡ length self.entry.bytes.now - at }

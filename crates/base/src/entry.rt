@@ -10,7 +10,7 @@ ghost use Rattle.format.specs.Parts.{Place};
 ghost use Rattle.base.specs.Answers.{step_by, found_by, next_by, way_by, way_if_there};
 ghost use Rattle.base.specs.Cut.{place_of};
 ghost use Rattle.base.specs.Picked.{picked};
-ghost use Rattle.base.specs.Indexing.{Indexes};
+ghost use Rattle.base.specs.Indexing.{Indexes, ReadsByWidth};
 
 use crate::cut::Cut;
 use reading::Table;
@@ -106,9 +106,10 @@ pub fn pass<E: Plain>(cut: Cut, at: usize, n: usize) -> Option<usize>
     Some(at + size)
 }
 
-// The entry of index `index` in a table whose entries have one width: none before it is read. The promise is for a table that reads.
+// The entry of index `index` in a table whose entries have one width: none before it is read.
 pub fn find_by_width<E: OneWidth>(cut: Cut, t: Table, index: u16) -> Result<Option<E>, E::Error>
-    ensures { Indexes (E.told cut.entry.bytes.now) E.kept (E.reader (place_of cut.entry)) cut.entry.bytes.now t index result }
+    ensures indexes { Indexes (E.told cut.entry.bytes.now) E.kept (E.reader (place_of cut.entry)) cut.entry.bytes.now t index result }
+    ensures anywhere { ReadsByWidth (E.told cut.entry.bytes.now) E.kept (E.reader (place_of cut.entry)) E.WIDTH cut.entry.bytes.now t index result }
 {
     let index = index as usize;
     if t.count <= index {

@@ -85,10 +85,10 @@ impl Plain for FuncEntry {
 }
 
 // The section's reader: the directory of `num_functions` entries must be there.
-pub fn read_from(cut: Cut, num_functions: u16) -> Result<(), ContainerError>
-    ensures { got_from as_it_is result ≡ code_reads num_functions cut.entry.bytes.now }
+pub fn read_from(s: &[u8], num_functions: u16) -> Result<(), ContainerError>
+    ensures { got_from as_it_is result ≡ code_reads num_functions s.now }
 {
-    pass::<FuncEntry>(cut, 0, num_functions as usize).ok_or(ContainerError::ShortInput)?;
+    pass::<FuncEntry>(Cut::of(s), 0, num_functions as usize).ok_or(ContainerError::ShortInput)?;
     Ok(())
 }
 
@@ -106,7 +106,7 @@ fn directory(num_functions: u16) -> Table
 fn find(cut: Cut, num_functions: u16, function_id: FunctionId) -> Result<FuncEntry, ContainerError>
     ensures { got_from func_in result ≡ function_in num_functions cut.entry.bytes.now function_id.0 }
 {
-    read_from(cut, num_functions)?;
+    read_from(cut.bytes, num_functions)?;
     find_by_width(cut, directory(num_functions), function_id.0)?.ok_or(ContainerError::NoFunction)
 }
 
@@ -165,7 +165,7 @@ pub fn get_function_bytecode(
 pub fn functions(file: &[u8], section: Section, num_functions: u16) -> Result<Table, ContainerError>
     ensures { got_from as_it_is result ≡ directory_at file.now (place_in section) num_functions }
 {
-    read_from(section_cut(file, section)?, num_functions)?;
+    read_from(section_cut(file, section)?.bytes, num_functions)?;
     Ok(directory(num_functions))
 }
 

@@ -148,10 +148,10 @@ fn table(cut: Cut, k: usize) -> Result<Table, ContainerError>
 }
 
 // The section's reader: its refusal, or the number of constants.
-pub fn read_from(cut: Cut) -> Result<u16, ContainerError>
-    ensures { got_from as_it_is result ≡ pool_count cut.entry.bytes.now }
+pub fn read_from(s: &[u8]) -> Result<u16, ContainerError>
+    ensures { got_from as_it_is result ≡ pool_count s.now }
 {
-    Ok(table(cut, 0)?.count as u16)
+    Ok(table(Cut::of(s), 0)?.count as u16)
 }
 
 // The constant at an index of the section: the first entry from the index on.

@@ -82,7 +82,7 @@ pub enum DebugState {
 fn tasks_at(file: &[u8], section: Section) -> Result<TaskCounts, ContainerError>
     ensures { got_from task_counts_in result ≡ task_counts_at file.now (place_in section) }
 {
-    task_table::read_from(section_cut(file, section)?)
+    task_table::read_from(section_cut(file, section)?.bytes)
 }
 
 fn types_at(file: &[u8], section: Section) -> Result<Option<TypeCounts>, ContainerError>
@@ -90,7 +90,7 @@ fn types_at(file: &[u8], section: Section) -> Result<Option<TypeCounts>, Contain
     ensures { got_from maybe_types result ≡ type_counts_at file.now (place_in section) }
 {
     match section_cut(file, section) {
-        Ok(cut) => Ok(Some(type_section::read_from(cut)?)),
+        Ok(cut) => Ok(Some(type_section::read_from(cut.bytes)?)),
         Err(_) => Ok(None),
     }
 }
@@ -99,14 +99,14 @@ fn types_at(file: &[u8], section: Section) -> Result<Option<TypeCounts>, Contain
 fn constants_at(file: &[u8], section: Section) -> Result<u16, ContainerError>
     ensures { got_from as_it_is result ≡ constant_count_at file.now (place_in section) }
 {
-    constant_pool::read_from(section_cut(file, section)?)
+    constant_pool::read_from(section_cut(file, section)?.bytes)
 }
 
 #[tactic(auto, using(base::proofs::FileLookups::lookup_err, base::proofs::FileLookups::lookup_ok))]
 fn code_at(file: &[u8], section: Section, num_functions: u16) -> Result<(), ContainerError>
     ensures { got_from as_it_is result ≡ code_reads_at file.now (place_in section) num_functions }
 {
-    code_section::read_from(section_cut(file, section)?, num_functions)
+    code_section::read_from(section_cut(file, section)?.bytes, num_functions)
 }
 
 // Types are read only if their flag is set and their size is above 0.
@@ -129,7 +129,7 @@ fn section_state(cut: Cut, debug_hash: Digest) -> DebugState
     ensures { debug_state_in cut.entry.bytes.now result ≡ section_state (digest_bytes debug_hash) cut.entry.bytes.now }
 {
     if debug_hash_matches(debug_hash, cut.bytes) {
-        return match debug_tables::read_from(cut) {
+        return match debug_tables::read_from(cut.bytes) {
             Ok(counts) => DebugState::Read(counts),
             Err(fault) => DebugState::Unreadable(fault),
         };

@@ -56,7 +56,7 @@ fn opened(file: &[u8], section: Section) -> Result<(Cut, DebugTables), Container
     ensures { got_from opened_in result ≡ opened_at file.now (place_in section) }
 {
     let cut = debug_cut(file, section)?;
-    let tables = tables_of(cut).map_err(|_| ContainerError::NoDebug)?;
+    let tables = tables_of(cut.bytes).map_err(|_| ContainerError::NoDebug)?;
     Ok((cut, tables))
 }
 
@@ -73,7 +73,7 @@ pub fn bad_place(file: &[u8], section: Section) -> Option<usize>
     ensures { bad_place_in result ≡ bad_place_at file.now (place_in section) }
 {
     match debug_cut(file, section) {
-        Ok(cut) => debug_tables::bad_place(cut),
+        Ok(cut) => debug_tables::bad_place(cut.bytes),
         Err(_) => None,
     }
 }

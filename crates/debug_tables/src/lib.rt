@@ -199,9 +199,10 @@ fn rows_of(s: &[u8]) -> Option<&[[u8; DIR_ENTRY_SIZE]]>
 }
 
 // The section's reader: why it does not read, or where its tables in force stand. A later table of a tag replaces the earlier, even by an empty one.
-pub fn tables_of(cut: Cut) -> Result<DebugTables, DebugFault>
-    ensures { got_by (debug_fault_of cut.entry.bytes.now) as_it_is result ≡ item_of (debug_starts cut.entry.bytes.now) }
+pub fn tables_of(s: &[u8]) -> Result<DebugTables, DebugFault>
+    ensures { got_by (debug_fault_of s.now) as_it_is result ≡ item_of (debug_starts s.now) }
 {
+    let cut = Cut::of(s);
     let Some(rows) = rows_of(cut.bytes) else {
         return Err(DebugFault::Short);
     };
@@ -225,11 +226,11 @@ fn two_byte_counts(s: &[u8], t: DebugTables)
 
 // The section's reader by its counts: why it does not read, or how many entries its tables have.
 #[tactic(auto, using(crate::proofs::Counts::none_counted, crate::proofs::Counts::some_counted))]
-pub fn read_from(cut: Cut) -> Result<DebugCounts, DebugFault>
-    ensures { got_by (debug_fault_of cut.entry.bytes.now) debug_counts_in result ≡ counts_read cut.entry.bytes.now }
+pub fn read_from(s: &[u8]) -> Result<DebugCounts, DebugFault>
+    ensures { got_by (debug_fault_of s.now) debug_counts_in result ≡ counts_read s.now }
 {
-    let t = tables_of(cut)?;
-    two_byte_counts(cut.bytes, t);
+    let t = tables_of(s)?;
+    two_byte_counts(s, t);
     Ok(SixTags {
         lines: t.lines.count as u16,
         variables: t.variables.count as u16,
@@ -242,10 +243,10 @@ pub fn read_from(cut: Cut) -> Result<DebugCounts, DebugFault>
 
 // Which byte keeps the section from being read: where the first fault in it is a name or a path that lies whole in it and is not UTF-8, the place
 // of its first bad byte, counted from the section's start. None where it reads, or ends before an announced item.
-pub fn bad_place(cut: Cut) -> Option<usize>
-    ensures { bad_place_in result ≡ bad_place cut.entry.bytes.now }
+pub fn bad_place(s: &[u8]) -> Option<usize>
+    ensures { bad_place_in result ≡ bad_place s.now }
 {
-    match tables_of(cut) {
+    match tables_of(s) {
         Err(DebugFault::BadText(p)) => Some(p),
         Err(DebugFault::Short) => None,
         Ok(_) => None,

@@ -1,11 +1,10 @@
 -- What each turn of `feed` makes of the state, if the rest of the input is fed to it afterwards.
 use mathlib.Core.Path.{◌≡◌, sym, ap, ap₂, ◌∙◌}
-use mathlib.Core.List.{List, ◌++◌, append_assoc}
+use mathlib.Core.List.{List, ◌++◌}
 use Prim.Native.Nat.{ℕ, ◌+◌, ◌*◌, ◌≤◌, ◌<◌}
 use native.Mathlib.Omega.{arith}
 use lib.ListN.{length, take, drop, length-append, length-take, length-drop}
-use lib.Seq.{sets-eq, length-take-le, drop-drop}
-use borrow.Rule.Slice.PartMut.{put_mid}
+use lib.Seq.{sets-eq, length-take-le}
 use Rattle.compression.specs.Sizes.{block_len, chunk_len, last_block}
 use Rattle.compression.specs.Word.{words}
 use Rattle.compression.specs.Chain.{chained}
@@ -32,17 +31,15 @@ module _ (h : Hasher) (s : List ℕ) where
   blocks-turn n z l o p q et ec = cc (fed-chain n h s z l o p q)
 
   -- n bytes for which the block has room, written behind those that it has
-  pub part-turn : (n k : ℕ) {xs ys : List ℕ} → length h.block ≡ block_len → h.block_len + n ≤ block_len → n ≤ length s → xs ≡ take n s → ys ≡ xs → k ≡ n
-      → fed_freely (holding h (put_mid h.block_len k h.block ys) (h.block_len + n)) (drop n s) ≡ fed_freely h s
-  part-turn n k {xs} {ys} l p q ex ey ek =
+  pub part-turn : (n : ℕ) {xs b : List ℕ} → length h.block ≡ block_len → h.block_len + n ≤ block_len → n ≤ length s → xs ≡ take n s
+      → b ≡ take h.block_len h.block ++ xs ++ drop (h.block_len + length xs) h.block → fed_freely (holding h b (h.block_len + n)) (drop n s) ≡ fed_freely h s
+  part-turn n {xs} {b} l p q ex eb =
       let m : length xs ≡ n = ap length ex ∙ length-take-le n s q in
-      let same : put_mid h.block_len k h.block ys ≡ take h.block_len h.block ++ xs ++ drop (h.block_len + length xs) h.block =
-      ap₂ (λ (a b : List ℕ). take h.block_len h.block ++ (a ++ b)) ey (drop-drop k h.block_len h.block ∙ ap (λ (i : ℕ). drop (h.block_len + i) h.block) (ek ∙ sym m))
-      ∙ sym (append_assoc (take h.block_len h.block) _ _) in
-      let held : holding h (put_mid h.block_len k h.block ys) (h.block_len + n) ≡ fed_freely h xs =
-      ap₂ (λ (x : List ℕ) (i : ℕ). holding h x (h.block_len + i)) (same ∙ sym (sets-eq xs h.block h.block_len (omega arith))) (sym m) ∙ sym (part_held h xs (omega arith)) in
+      let held : holding h b (h.block_len + n) ≡ fed_freely h xs =
+      ap₂ (λ (x : List ℕ) (i : ℕ). holding h x (h.block_len + i)) (eb ∙ sym (sets-eq xs h.block h.block_len (omega arith))) (sym m) ∙ sym (part_held h xs (omega arith)) in
       ap (λ (r : Hasher). fed_freely r (drop n s)) (held ∙ ap (fed_freely h) ex) ∙ fed-split h n s
 
   -- the block keeps its length
-  pub part-length : (n k : ℕ) (ys : List ℕ) → length h.block ≡ block_len → h.block_len + n ≤ block_len → length ys ≡ n → k ≡ n → length (put_mid h.block_len k h.block ys) ≡ block_len
-  part-length n k ys l p e ek = simp (length-append, length-take, length-drop) (omega arith)
+  pub part-length : (n : ℕ) (xs : List ℕ) {b : List ℕ} → length h.block ≡ block_len → h.block_len + n ≤ block_len → length xs ≡ n
+      → b ≡ take h.block_len h.block ++ xs ++ drop (h.block_len + length xs) h.block → length b ≡ block_len
+  part-length n xs l p e eb = rw eb (simp (length-append, length-take, length-drop) (omega arith))

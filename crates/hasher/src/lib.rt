@@ -16,6 +16,7 @@ use compression::{
     BLOCK_LEN, CHUNK_END, CHUNK_LEN, LAST_BLOCK, LAST_BLOCK_START, PARENT, ROOT, block_words,
     compress, compress_in_place, iv, join, start_flag,
 };
+use lent::{copy, copy_to};
 use wide::{ChunkCounter, chunks4, counter_after};
 
 const FOUR_CHUNKS: usize = 4 * CHUNK_LEN;
@@ -326,7 +327,7 @@ impl Hasher {
             } else {
                 let n = (BLOCK_LEN - len).min(rest.len());
                 let (part, more) = rest.split_at(n);
-                block[len..len + n].copy_from_slice(part);
+                copy(&mut block, len, part);
                 h.block = block;
                 h.block_len = (len + n) as u32;
                 rest = more;
@@ -375,7 +376,7 @@ fn last_words(s: &[u8]) -> [u32; 16]
         return block_words(s);
     }
     let mut block = [0; BLOCK_LEN];
-    block[..s.len()].copy_from_slice(s);
+    copy_to(&mut block, s);
     block_words(&block)
 }
 

@@ -14,7 +14,9 @@ pub fn copy_to<T: Copy>(part: &mut [T], items: &[T])
     requires { length items.now ≤ length part.old }
     ensures { part.new ≡ put_at_start part.old items.now }
 {
-    part[..items.len()].copy_from_slice(items);
+    for (i, item) in items.iter().enumerate() {
+        part[i] = *item;
+    }
 }
 
 // Copies items to the place `at`: the part of the buffer that starts there is lent on to the copy.

@@ -14,8 +14,9 @@ use answer_numbers::{Numbers, answer_numbers, no_numbers};
 use base::id_types::{ConstantIndex, FunctionId, SourceFileId};
 use record::Container;
 
-// The lookup of a kind.
+// The lookup of a kind. Out of line: within `lookup` its answer would be copied once more.
 #[tactic(auto, unfolding(crate::specs::Kinds::looked_up, crate::specs::Kinds::lookups_of))]
+#[inline(never)]
 fn of_kind(c: Container, file: &[u8], kind: Kind, index: u16, second: u16) -> Numbers
     ensures { result ≡ numbers_of (looked_up file.now (container_in c) (kind_number kind) index second) }
 {

@@ -171,9 +171,10 @@ impl Plain for ProgramInstanceEntry {
 }
 
 // The section's reader. Each task is checked; no program can be refused, so only their bytes must be present.
-pub fn read_from(cut: Cut) -> Result<TaskCounts, ContainerError>
-    ensures { got_from task_counts_in result ≡ task_counts_inside cut.entry.bytes.now }
+pub fn read_from(s: &[u8]) -> Result<TaskCounts, ContainerError>
+    ensures { got_from task_counts_in result ≡ task_counts_inside s.now }
 {
+    let cut = Cut::of(s);
     if cut.left(0) < TASK_TABLE_HEADER_SIZE {
         return Err(ContainerError::ShortInput);
     }
@@ -213,7 +214,7 @@ fn program_entries(counts: TaskCounts) -> Table
 fn find_task(cut: Cut, index: u16) -> Result<TaskEntry, ContainerError>
     ensures { got_from task_in result ≡ task_inside cut.entry.bytes.now index }
 {
-    let tasks = task_entries(read_from(cut)?);
+    let tasks = task_entries(read_from(cut.bytes)?);
     find_by_width(cut, tasks, index)?.ok_or(ContainerError::NoEntry)
 }
 
@@ -221,7 +222,7 @@ fn find_task(cut: Cut, index: u16) -> Result<TaskEntry, ContainerError>
 fn find_program(cut: Cut, index: u16) -> Result<ProgramInstanceEntry, ContainerError>
     ensures { got_from program_in result ≡ program_inside cut.entry.bytes.now index }
 {
-    let programs = program_entries(read_from(cut)?);
+    let programs = program_entries(read_from(cut.bytes)?);
     find_by_width(cut, programs, index)?.ok_or(ContainerError::NoEntry)
 }
 
@@ -250,7 +251,7 @@ pub fn program(
 pub fn tasks(file: &[u8], section: Section) -> Result<Table, ContainerError>
     ensures { got_from as_it_is result ≡ tasks_at file.now (place_in section) }
 {
-    Ok(task_entries(read_from(section_cut(file, section)?)?))
+    Ok(task_entries(read_from(section_cut(file, section)?.bytes)?))
 }
 
 // Where a walk over the programs starts.
@@ -258,7 +259,7 @@ pub fn tasks(file: &[u8], section: Section) -> Result<Table, ContainerError>
 pub fn programs(file: &[u8], section: Section) -> Result<Table, ContainerError>
     ensures { got_from as_it_is result ≡ programs_at file.now (place_in section) }
 {
-    Ok(program_entries(read_from(section_cut(file, section)?)?))
+    Ok(program_entries(read_from(section_cut(file, section)?.bytes)?))
 }
 
 // The next task of a walk.

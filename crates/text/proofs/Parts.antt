@@ -9,10 +9,11 @@ use native.Mathlib.Nat.{pow-succ'}
 use borrow.Author.Tests.{lt-ltb, le-ltb, ltb-true, ltb-false}
 use Prim.Native.Char.{code}
 use lib.Dec.{ltb}
-use lib.ListN.{length, get_or, take, drop, length-append}
+use lib.ListN.{length, get_or, take, drop, length-append, take-append-drop}
 use lib.Seq.{split_at, take-suc}
 use Rattle.std.specs.Fmt as fmt
 use Rattle.std.proofs.lemmas.Fmt as fmt_lemmas
+use Rattle.lent.specs.Output.{Wrote}
 use Rattle.text.specs.Text.{ascii, digits, decimal, numbers, hexes, hex_or_dash, ended, bytes_line}
 
 -- Decimal
@@ -38,6 +39,31 @@ all-digits (suc (suc k)) n p q h =
 
 pub std_decimal : (n : ℕ) → n < 2 ^ 64 → fmt.decimal n ≡ decimal n
 std_decimal n h = sym (all-digits 20 n (omega arith) (omega arith) h)
+
+ten-power : (m : ℕ) → 0 < 10 ^ m
+ten-power zero = omega arith
+ten-power (suc m) = omega (arith, ten-power m, pow-succ' 10 m)
+
+-- digits that end where the place and their length say stand at that place
+pub wrote_before_end : {a b t u : List ℕ} {at end : ℕ} (r : ℕ) → u ≡ t → at + length t ≤ length a → end ≡ at + length t → r + length u ≡ end
+    → drop r b ≡ u ++ drop end a → take r b ≡ take r a → Wrote a at t b end
+wrote_before_end {a} {b} {t} {u} {at} {end} r e h l s d k =
+    let n = ap length e in
+    let o : r ≡ at = omega arith in
+    record {
+      fits = h;
+      next = l;
+      buffer = sym (take-append-drop r b) ∙ rw (d, k, o, e, l) (sym (append_assoc (take at a) t (drop (at + length t) a)));
+    }
+
+-- how many digits there are: one more than tens in the largest power of ten that is not above the number
+pub digits-many : (k m n : ℕ) → m < k → 10 ^ m ≤ n → n < 10 * 10 ^ m → length (digits k n) ≡ m + 1
+digits-many zero m n h l g = absurd (omega arith)
+digits-many (suc k) zero n h l g = ap length (digits-one k n (omega arith))
+digits-many (suc k) (suc m) n h l g =
+    let p = pow-succ' 10 m in
+    let one = (code "0" + n % 10) ∷ [] in
+    omega (arith, ap length (digits_more k n (omega (arith, ten-power m))), length-append (digits k (n / 10)) one, digits-many k m (n / 10) (omega arith) (omega arith) (omega arith))
 
 pub either-short : (z : Bool) (k : ℕ) (s t : List ℕ) → length s ≤ k → length t ≤ k → length (cond z s t) ≤ k
 either-short true k s t h h' = h

@@ -9,7 +9,7 @@ ghost use Rattle.text.specs.Text.{ascii, decimal, numbers, hexes, hex_or_dash, e
 ghost use Rattle.text.specs.Laws.{Laws};
 
 use hex::encode_to_slice;
-use itoa::Buffer;
+use itoa::write_digits;
 use lent::put;
 
 // A space and the digits of the largest u64.
@@ -17,12 +17,24 @@ const MOST_OF_NUMBER: usize = 21;
 
 // Writing a text that fits.
 
+// How many decimal digits n has.
+fn decimal_length(n: u64) -> usize
+    ensures { result ≡ length (decimal n) }
+{
+    match n.checked_ilog10() {
+        None => 1,
+        Some(power) => power as usize + 1,
+    }
+}
+
+// The digits are written where they belong: a copy from a buffer of their own takes longer than making them.
 fn put_decimal(out: &mut [u8], at: usize, n: u64) -> usize
     requires { at + length (decimal n) ≤ length out.old }
     ensures { Wrote out.old at (decimal n) out.new result }
 {
-    let mut digits = Buffer::new();
-    put(out, at, digits.format(n).as_bytes())
+    let end = at + decimal_length(n);
+    write_digits(n, out, end);
+    end
 }
 
 // A space and n.
@@ -87,8 +99,7 @@ fn numbers_fit(left: usize, ns: &[u64]) -> bool
 {
     let mut rest = left;
     for &n in ns {
-        let mut digits = Buffer::new();
-        let size = 1 + digits.format(n).len();
+        let size = 1 + decimal_length(n);
         if rest < size {
             return false;
         }

@@ -1,5 +1,5 @@
 -- Where the entries of the section's tables start: each table's behind its count and the tables before it (document 01, "Sections", Types).
-use Rattle.std.specs.Prelude.{ℕ, ◌+◌, ◌*◌, List, [], ◌∷◌, length}
+use Rattle.std.specs.Prelude.{ℕ, ◌+◌, ◌*◌, ◌-◌, ◌^◌, min, List, [], ◌∷◌, length}
 use Rattle.reading.specs.Answer.{Got, found, ◌>>=◌, item_of}
 use Rattle.reading.specs.declared.Table.{Table}
 use Rattle.format.specs.Types.{FbType, TypeTables, type_tables}
@@ -48,6 +48,10 @@ fields_start at b = record { at = at + fb_type_head_size; count = length b.field
 -- the same by its head
 abbrev pub head_fields : ℕ → FbTypeHead → Table
 head_fields at h = record { at = at + fb_type_head_size; count = h.field_count }
+
+-- the same at any number `at`: where the sum does not fit, they stand at the highest number, behind every section
+abbrev pub fields_anywhere : ℕ → FbTypeHead → Table
+fields_anywhere at h = record { at = min (at + fb_type_head_size) (2 ^ 64 - 1); count = h.field_count }
 
 abbrev pub type_starts_of : TypeTables → Tables
 type_starts_of t = record { fb_types = fb_types_start t; arrays = arrays_start t; user_fbs = user_fbs_start t }

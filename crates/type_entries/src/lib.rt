@@ -17,7 +17,7 @@ ghost use Rattle.base.specs.Cut.{place_of};
 ghost use Rattle.base.specs.Error.{fault_of};
 ghost use Rattle.base.specs.Small.{byte_width};
 ghost use Rattle.type_entries.specs.Answers.{field_in, fb_type_head_in, fb_type_head, string_width, array_in, stride_checked, user_fb_in, table_at};
-ghost use Rattle.type_entries.specs.Starts.{field_entry_size, fb_type_head_size, array_descriptor_size, user_fb_descriptor_size, head_fields, type_starts_in};
+ghost use Rattle.type_entries.specs.Starts.{field_entry_size, fb_type_head_size, array_descriptor_size, user_fb_descriptor_size, head_fields, fields_anywhere, type_starts_in};
 ghost use Rattle.type_entries.specs.Stays.{fb_type_head_stays};
 
 use base::char_width::CharWidth;
@@ -35,7 +35,7 @@ const COUNT_SIZE: usize = 2;
 pub const FIELD_ENTRY_SIZE: usize = 4;
 
 // The bytes of an FB type without its fields.
-const FB_TYPE_HEAD_SIZE: usize = 4;
+pub const FB_TYPE_HEAD_SIZE: usize = 4;
 
 pub const ARRAY_DESCRIPTOR_SIZE: usize = 12;
 
@@ -194,9 +194,10 @@ impl OneWidth for FieldEntry {
 }
 
 impl FbTypeDescriptor {
-    // The table of its fields, which stand behind its head at the place `at`; the promise is for a place in some section.
+    // The table of its fields, which stand behind its head at the place `at`.
     pub fn fields(self, at: usize) -> Table
-        ensures { at + fb_type_head_size < 2 ^ 64 → result ≡ head_fields at (fb_type_head_in self) }
+        ensures inside { at + fb_type_head_size < 2 ^ 64 → result ≡ head_fields at (fb_type_head_in self) }
+        ensures anywhere { result ≡ fields_anywhere at (fb_type_head_in self) }
     {
         Table {
             at: at.saturating_add(FB_TYPE_HEAD_SIZE),
@@ -347,10 +348,11 @@ fn user_fb_table(cut: Cut, at: usize) -> Result<Table, ContainerError>
 }
 
 // The section's reader: its refusal, or the places of its tables. Each count is a number of two bytes.
-pub fn tables_of(cut: Cut) -> Result<Tables, ContainerError>
-    ensures read { got_from as_it_is result ≡ type_starts_in cut.entry.bytes.now }
+pub fn tables_of(s: &[u8]) -> Result<Tables, ContainerError>
+    ensures read { got_from as_it_is result ≡ type_starts_in s.now }
     ensures few { IfOk result (λ t. (t.fb_types.count < 2 ^ 16) × (t.arrays.count < 2 ^ 16) × (t.user_fbs.count < 2 ^ 16)) }
 {
+    let cut = Cut::of(s);
     let (fb_types, behind_fb_types) = table::<FbTypeDescriptor>(cut, 0)?;
     let (arrays, behind_arrays) = table::<ArrayDescriptor>(cut, behind_fb_types)?;
     let user_fbs = user_fb_table(cut, behind_arrays)?;

@@ -10,10 +10,10 @@ use lib.Seq.{drop-drop}
 use Rattle.reading.specs.Fault.{Fault}
 use Rattle.reading.specs.Reader.{Read, fault, got, next, give, many}
 use Rattle.reading.specs.Answer.{Got, refused, found, ◌>>=◌, item_of, indexed}
-use Rattle.reading.specs.Places.{stops, item, step_at, Way, stops_by, on_to, Goes, way_at, left_of, Next, ends, faulty, entry, next_of, step_of}
+use Rattle.reading.specs.Places.{stops, item, step_at, Way, stops_by, on_to, Goes, way_given, way_at, left_of, Next, ends, faulty, entry, next_of, step_of}
 use Rattle.reading.specs.declared.Table.{Table}
 use Rattle.reading.proofs.Parts.{same_place}
-use Rattle.reading.proofs.Left.{stays-many}
+use Rattle.reading.proofs.Left.{stays-local, stays-many}
 use Rattle.reading.proofs.Given.{reads_at, goes_at}
 use Rattle.reading.proofs.Made.{made-stops, made-gives, many-made}
 use Rattle.reading.proofs.Tables.{At, many-take, at-picked, at_reads, holds_walked, holds-stops, holds-out}
@@ -21,6 +21,7 @@ use Rattle.format.specs.Faults.{no_array, no_entry}
 use Rattle.format.specs.Types.{Field, field, FbType, fb_type, Array, array, UserFb, user_fb, TypeTables, type_tables}
 use Rattle.format.specs.Lookups.{FbTypeHead, fb_type_head_of, fb_type_of, field_of}
 use Rattle.format.proofs.Answers.{same-found, steps, renamed}
+use Rattle.format.proofs.Readers.{local-fb-type}
 use Rattle.type_entries.specs.Starts.{count_size, fb_type_head_size, fb_types_size, head_fields, fields_start, type_starts_in}
 use Rattle.type_entries.specs.Answers.{fb_type_head}
 use Rattle.type_entries.specs.Stays.{fb_type_head_stays}
@@ -32,6 +33,15 @@ use Rattle.type_section.specs.Lookups.{FbTypeEntry, fb_type_entry, fb_type_of_se
 -- an FB type at a place, by its head
 abbrev pub head_entry : ℕ → FbTypeHead → FbTypeEntry
 head_entry at h = record { head = h; fields = head_fields at h }
+
+-- a walk over heads is one over FB types
+pub heads_way : (s : List ℕ) (n at : ℕ) → way_at (many n fb_type_head) s at ≡ way_at (many n fb_type) s at
+unfolding way_at
+heads_way s n at = rw (many-made fb_type_head_of fb_type n (drop at s)) (go (many n fb_type (drop at s)))
+  where
+    go : (y : Read (List FbType)) → way_given s (next y (λ bs. give (map fb_type_head_of bs))) ≡ way_given s y
+    go (fault f) = refl
+    go (got bs rest) = refl
 
 -- The section `s`, whose tables stand at `u`
 
@@ -47,28 +57,21 @@ module _ (s : List ℕ) (u : Tables) (e : found u ≡ type_starts_in s) where
     pub fb-type-out : u.fb_types.count ≤ i → refused no_entry ≡ fb_type_of_section s i
     fb-type-out l = let q = readable s u e in rw (q.is, holds-out fb_type s u.fb_types q.all.fb_types q.stand.fb_types i no_entry l)
 
-    -- a walk over heads is one over FB types
-    heads-passed : (w : Way) → w ≡ way_at (many i fb_type_head) s u.fb_types.at → Goes (many i fb_type) s u.fb_types.at w
-    heads-passed w g = go w (goes_at (stays-many s i (fb_type_head_stays s)) u.fb_types.at g)
-      where
-        go : (w : Way) → Goes (many i fb_type_head) s u.fb_types.at w → Goes (many i fb_type) s u.fb_types.at w
-        go (stops_by f) g = let x = drop u.fb_types.at s in made-stops (map fb_type_head_of) (many i fb_type x) f (sym (many-made fb_type_head_of fb_type i x) ∙ g)
-        go (on_to m) g =
-            let x = drop u.fb_types.at s in
-            let b = made-gives (map fb_type_head_of) (many i fb_type x) g.1.0 (drop m s) (sym (many-made fb_type_head_of fb_type i x) ∙ g.1.1) in
-            (g.0, (b.0, b.1))
+    -- so where it goes, reading the FB types goes
+    heads-go : (w : Way) → w ≡ way_at (many i fb_type_head) s u.fb_types.at → Goes (many i fb_type) s u.fb_types.at w
+    heads-go w g = goes_at (stays-many s i (stays-local s local-fb-type)) u.fb_types.at (g ∙ heads_way s i u.fb_types.at)
 
     module _ (l : i < u.fb_types.count) where
       pub fb-type-passed : {B : Type 0} (f : Fault) → stops_by f ≡ way_at (many i fb_type_head) s u.fb_types.at → B
       fb-type-passed f g =
           let q = readable s u e in
-          absurd (holds-stops fb_type s u.fb_types q.all.fb_types q.stand.fb_types i f (omega arith) (heads-passed (stops_by f) g))
+          absurd (holds-stops fb_type s u.fb_types q.all.fb_types q.stand.fb_types i f (omega arith) (heads-go (stops_by f) g))
 
       module _ (m : ℕ) (g : on_to m ≡ way_at (many i fb_type_head) s u.fb_types.at) where
         fb-type-place : m ≡ count_size + fb_types_size (take i (readable s u e).all.fb_types)
         fb-type-place =
             let q = readable s u e in
-            let w = heads-passed (on_to m) g in
+            let w = heads-go (on_to m) g in
             let h = q.stand.fb_types.within in
             let a : count_size ≡ u.fb_types.at = ap (λ (v : Tables). v.fb_types.at) q.starts in
             let x = drop u.fb_types.at s in
@@ -79,7 +82,7 @@ module _ (s : List ℕ) (u : Tables) (e : found u ≡ type_starts_in s) where
 
         -- the FB type that stands there
         here : At fb_type (readable s u e).all.fb_types i (drop m s)
-        here = let q = readable s u e in holds_walked fb_type s u.fb_types q.all.fb_types q.stand.fb_types i m l (heads-passed (on_to m) g)
+        here = let q = readable s u e in holds_walked fb_type s u.fb_types q.all.fb_types q.stand.fb_types i m l (heads-go (on_to m) g)
 
         pub fb-type-reads : {B : Type 0} (f : Fault) → stops f ≡ step_at fb_type_head s m → B
         fb-type-reads f d = absurd (at_reads fb_type here f (made-stops fb_type_head_of (fb_type (drop m s)) f (reads_at (fb_type_head_stays s) m d)))

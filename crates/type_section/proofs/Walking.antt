@@ -20,7 +20,7 @@ use Rattle.type_entries.specs.Starts.{fb_types_start, arrays_start, user_fbs_sta
 use Rattle.type_entries.proofs.Standing.{Standing, standing}
 use Rattle.type_section.specs.Lookups.{FbTypeEntry, arrays_at, user_fbs_at, with_fields, fb_type_step_of, next_fb_type_at, next_field_at, next_array_at, next_user_fb_at}
 use Rattle.type_section.specs.Laws.{fb_types_driven, FbTypesFrom, Laws}
-use Rattle.type_section.proofs.Finding.{fields-hold}
+use Rattle.type_section.proofs.Finding.{heads_way, fields-hold}
 use Rattle.format.proofs.Readers.{local-field, local-fb-type, local-array, local-user-fb}
 
 -- FB types that read, by steps that are those over the section's bytes: the step over each, and the walk over its fields
@@ -65,6 +65,7 @@ laws =
       fb_types = λ s t h. fb-types-walk s (fb_type_step_of s) (step_of field s) (λ u. refl) (λ u. refl) (length t.fb_types) (length t.fb_types) (fb_types_start t) t.fb_types _ refl (omega arith) (standing s t h).fb_types.reads;
       arrays = λ s t h. walk-gives s array (stays-local s local-array) (arrays_start t) t.arrays _ (standing s t h).arrays.reads;
       user_fbs = λ s t h. walk-gives s user_fb (stays-local s local-user-fb) (user_fbs_start t) t.user_fbs _ (standing s t h).user_fbs;
+      heads-passed = heads_way;
       fb_types_in = fb-types-in;
       arrays_in = arrays-in;
       user_fbs_in = user-fbs-in;

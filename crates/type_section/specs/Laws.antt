@@ -1,12 +1,14 @@
 -- A walk over a table of a section that reads, step by step from its start, gives the table; FB types with a walk over the fields of each. Over
 -- the section's bytes, and by the steps over a file and the section's place in it.
 use Rattle.std.specs.Prelude.{ℕ, zero, suc, ◌≤◌, List, [], ◌∷◌, ◌≡◌, length}
+use Rattle.reading.specs.Reader.{many}
 use Rattle.reading.specs.Answer.{Got, refused, found, ◌>>=◌, item_of}
-use Rattle.reading.specs.Places.{Next, ends, faulty, entry, step_of, driven, GivesFrom, walked}
+use Rattle.reading.specs.Places.{way_at, Next, ends, faulty, entry, step_of, driven, GivesFrom, walked}
 use Rattle.reading.specs.declared.Table.{Table}
 use Rattle.format.specs.Parts.{Place}
-use Rattle.format.specs.Types.{Field, field, FbType, array, user_fb, TypeTables, type_tables}
+use Rattle.format.specs.Types.{Field, field, FbType, fb_type, array, user_fb, TypeTables, type_tables}
 use Rattle.format.specs.Lookups.{read_at}
+use Rattle.type_entries.specs.Answers.{fb_type_head}
 use Rattle.type_entries.specs.Starts.{fb_types_start, arrays_start, user_fbs_start}
 use Rattle.type_section.specs.Lookups.{FbTypeEntry, fb_types_at, arrays_at, user_fbs_at, fb_type_step_of, next_fb_type_at, next_field_at, next_array_at, next_user_fb_at}
 
@@ -34,6 +36,8 @@ pub record Laws : Type 0 where
   pub fb_types : (s : List ℕ) (t : TypeTables) → item_of (type_tables s) ≡ found t → fb_types_walked (length t.fb_types) s (fb_types_start t) ≡ found t.fb_types
   pub arrays : (s : List ℕ) (t : TypeTables) → item_of (type_tables s) ≡ found t → walked (length t.arrays) array s (arrays_start t) ≡ found t.arrays
   pub user_fbs : (s : List ℕ) (t : TypeTables) → item_of (type_tables s) ≡ found t → walked (length t.user_fbs) user_fb s (user_fbs_start t) ≡ found t.user_fbs
+  -- the code's heads of FB types are passed over as the FB types are
+  pub heads-passed : (s : List ℕ) (n at : ℕ) → way_at (many n fb_type_head) s at ≡ way_at (many n fb_type) s at
   pub fb_types_in : (f : List ℕ) (p : Place) (t : TypeTables) → read_at f p type_tables ≡ found t → FbTypesFrom f p t.fb_types
   pub arrays_in : (f : List ℕ) (p : Place) (t : TypeTables) → read_at f p type_tables ≡ found t → GivesFrom (arrays_at f p) (next_array_at f p) t.arrays
   pub user_fbs_in : (f : List ℕ) (p : Place) (t : TypeTables) → read_at f p type_tables ≡ found t → GivesFrom (user_fbs_at f p) (next_user_fb_at f p) t.user_fbs

@@ -29,10 +29,10 @@ pub struct TypeCounts {
 }
 
 // The section's reader: its refusal, or the counts of its tables.
-pub fn read_from(cut: Cut) -> Result<TypeCounts, ContainerError>
-    ensures { got_from type_counts_in result ≡ type_counts_of_section cut.entry.bytes.now }
+pub fn read_from(s: &[u8]) -> Result<TypeCounts, ContainerError>
+    ensures { got_from type_counts_in result ≡ type_counts_of_section s.now }
 {
-    let t = tables_of(cut)?;
+    let t = tables_of(s)?;
     Ok(TypeCounts {
         fb_types: t.fb_types.count as u16,
         arrays: t.arrays.count as u16,
@@ -44,7 +44,7 @@ pub fn read_from(cut: Cut) -> Result<TypeCounts, ContainerError>
 fn find_fb_type(cut: Cut, index: u16) -> Result<(FbTypeDescriptor, Table), ContainerError>
     ensures { got_from fb_type_entry_in result ≡ fb_type_of_section cut.entry.bytes.now index }
 {
-    let t = tables_of(cut)?.fb_types;
+    let t = tables_of(cut.bytes)?.fb_types;
     if t.count <= index as usize {
         return Err(ContainerError::NoEntry);
     }
@@ -65,7 +65,7 @@ fn find_field(cut: Cut, index: u16, field: u16) -> Result<FieldEntry, ContainerE
 fn find_array(cut: Cut, index: u16) -> Result<ArrayDescriptor, ContainerError>
     ensures { got_from array_in result ≡ array_of_section cut.entry.bytes.now index }
 {
-    let t = tables_of(cut)?.arrays;
+    let t = tables_of(cut.bytes)?.arrays;
     find_by_width(cut, t, index)?.ok_or(ContainerError::NoArray)
 }
 
@@ -73,7 +73,7 @@ fn find_array(cut: Cut, index: u16) -> Result<ArrayDescriptor, ContainerError>
 fn find_user_fb(cut: Cut, index: u16) -> Result<UserFbDescriptor, ContainerError>
     ensures { got_from user_fb_in result ≡ user_fb_of_section cut.entry.bytes.now index }
 {
-    let t = tables_of(cut)?.user_fbs;
+    let t = tables_of(cut.bytes)?.user_fbs;
     find_by_width(cut, t, index)?.ok_or(ContainerError::NoEntry)
 }
 
@@ -133,7 +133,7 @@ pub fn user_fb(
 fn tables(file: &[u8], section: Section) -> Result<Tables, ContainerError>
     ensures { got_from as_it_is result ≡ tables_at file.now (place_in section) }
 {
-    tables_of(section_cut(file, section)?)
+    tables_of(section_cut(file, section)?.bytes)
 }
 
 // Where a walk over the FB types starts.

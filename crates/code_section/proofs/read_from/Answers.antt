@@ -14,9 +14,9 @@ pub returns-in_err-ok_or : goal.returns-in_err-ok_or
 returns-in_err-ok_or c =
     let e = err_from_is_err_and c.from_residual.result c.from_residual.ensures.1 in
     let q = ap (way_by fault_of) c.in_err-ok_or.ensures.value ∙ or_there fault_of _ refl _ ∙ c.pass.ensures in
-    rw (e.1, e.2) (code-stop _ _ _ (goes_at (stays-many _ _ (stays-local _ local-function)) _ q))
+    rw (e.1, e.2, ← c.of.ensures.same) (code-stop _ _ _ (goes_at (stays-many _ _ (stays-local _ local-function)) _ q))
 
 pub returns : goal.returns
 returns c =
     let q = ap (way_by fault_of) c.in_ok-ok_or.ensures.value ∙ or_there fault_of _ refl _ ∙ c.pass.ensures in
-    code-passed _ _ _ (goes_at (stays-many _ _ (stays-local _ local-function)) _ q)
+    rw (← c.of.ensures.same) (code-passed _ _ _ (goes_at (stays-many _ _ (stays-local _ local-function)) _ q))

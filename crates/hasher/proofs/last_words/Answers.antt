@@ -9,5 +9,5 @@ use Rattle.hasher.proofs.last_words.Goals as goal
 pub returns : goal.returns
 returns c =
     let s = c.args.s.now in
-    let held : c.block_words-2.result ≡ words (s ++ drop (length s) (replicate block_len 0)) = rw c.copy_from_slice.ensures.after at c.block_words-2.ensures in
+    let held : c.block_words-2.result ≡ words (s ++ drop (length s) (replicate block_len 0)) = rw c.copy_to.ensures at c.block_words-2.ensures in
     held ∙ rw (drop-replicate {A = ℕ} (length s) block_len 0) (words-filled s (block_len - length s))

@@ -1,13 +1,14 @@
 -- `text::put_decimal` meets its contract: std's digits are ours.
-use mathlib.Core.Path.{ap, ◌∙◌}
+use mathlib.Core.Path.{ap}
 use native.Mathlib.Omega.{arith}
 use lib.ListN.{length}
-use Rattle.lent.proofs.Writing.{wrote_as}
-use Rattle.text.proofs.Parts.{std_decimal}
+use Rattle.text.proofs.Parts.{std_decimal, wrote_before_end}
 use Rattle.text.proofs.put_decimal.Goals as goal
 
-pub put-requires : goal.put-requires
-put-requires c = omega (arith, ap length (c.as_bytes.ensures.value ∙ c.format.ensures.text ∙ std_decimal c.args.n (omega arith)))
+pub write_digits-requires : goal.write_digits-requires
+write_digits-requires c = let e = ap length (std_decimal c.args.n (omega arith)) in (omega arith, omega arith)
 
 pub returns : goal.returns
-returns c = wrote_as (c.as_bytes.ensures.value ∙ c.format.ensures.text ∙ std_decimal c.args.n (omega arith)) c.put.ensures
+returns c =
+    let w = c.write_digits.ensures in
+    wrote_before_end c.write_digits.result (std_decimal c.args.n (omega arith)) c.requires (omega arith) w.start w.written w.before

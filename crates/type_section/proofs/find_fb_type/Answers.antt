@@ -14,4 +14,4 @@ pub returns-in_err-fb_type : goal.returns-in_err-fb_type
 returns-in_err-fb_type c = fb-type-reads _ _ c.in_ok-t.ensures.read _ (omega arith) _ c.in_ok-at.ensures _ c.in_err-fb_type.ensures
 
 pub returns : goal.returns
-returns c = rw (c.fields.ensures (omega (arith, c.args.cut.in_file, head-room _ _ _ _ c.in_ok-fb_type.ensures))) (fb-type-found _ _ c.in_ok-t.ensures.read _ (omega arith) _ c.in_ok-at.ensures _ _ c.in_ok-fb_type.ensures)
+returns c = rw (c.fields.ensures.inside (omega (arith, c.args.cut.in_file, head-room _ _ _ _ c.in_ok-fb_type.ensures))) (fb-type-found _ _ c.in_ok-t.ensures.read _ (omega arith) _ c.in_ok-at.ensures _ _ c.in_ok-fb_type.ensures)

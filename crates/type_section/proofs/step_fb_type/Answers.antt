@@ -17,4 +17,4 @@ pub returns : goal.returns
 returns c =
     let a = c.args in
     let room = step-room a.cut.bytes.now a.t _ _ (rw c.in-Some.is at c.in_ok-fb_type.ensures) in
-    rw (c.fields.ensures (omega (arith, a.cut.in_file, room))) (fb-type-step _ _ (entry _ _) (rw c.in-Some.is at c.in_ok-fb_type.ensures))
+    rw (c.fields.ensures.inside (omega (arith, a.cut.in_file, room))) (fb-type-step _ _ (entry _ _) (rw c.in-Some.is at c.in_ok-fb_type.ensures))

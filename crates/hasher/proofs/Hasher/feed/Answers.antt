@@ -1,4 +1,4 @@
-use Rattle.std.proofs.Common.{◌≡◌, length, length-take, length-drop, refl, sym, ap, ◌∙◌, arith, rules}
+use Rattle.std.proofs.Common.{◌≡◌, length, length-take, length-drop, refl, sym, ◌∙◌, arith, rules}
 use Rattle.reading.proofs.Parts.{rest_of}
 use Rattle.hasher.specs.Whole.{at_once}
 use Rattle.hasher.specs.declared.Hasher.{Hasher}
@@ -55,9 +55,9 @@ loop-rest-preserved c =
     let l = c.loop-rest in
     let n = c.min-n-else-len-eq0-2.result in
     let cut = c.split_at-else-len-eq0-2.ensures in
-    let wrote = c.copy_from_slice.ensures.after in (
-      part-length l.h l.rest.now n _ _ l.invariant.0 (omega arith) (ap length wrote ∙ cut.front_len) (omega arith),
-      rw cut.back (part-turn l.h l.rest.now n _ l.invariant.0 (omega arith) (omega arith) cut.front wrote (omega arith) ∙ l.invariant.1),
+    let wrote = c.copy.ensures in (
+      part-length l.h l.rest.now n _ l.invariant.0 (omega arith) cut.front_len wrote,
+      rw cut.back (part-turn l.h l.rest.now n l.invariant.0 (omega arith) (omega arith) cut.front wrote ∙ l.invariant.1),
     )
 
 pub returns : goal.returns

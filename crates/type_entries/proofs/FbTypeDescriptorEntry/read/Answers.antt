@@ -13,9 +13,9 @@ pub returns-in_err-end : goal.returns-in_err-end
 returns-in_err-end c =
     let e = err_from_is_err_and c.from_residual.result c.from_residual.ensures.1 in
     let a = c.args in
-    rw (e.1, e.2) (head-walk a.cut.bytes.now a.at _ _ (omega arith) c.u16_at.ensures c.u8_at.ensures (stops_by _) (rw (c.fields-fields.ensures (omega (arith, a.cut.in_file))) at c.in_err-end.ensures))
+    rw (e.1, e.2) (head-walk a.cut.bytes.now a.at _ _ (omega arith) c.u16_at.ensures c.u8_at.ensures (stops_by _) (rw (c.fields-fields.ensures.inside (omega (arith, a.cut.in_file))) at c.in_err-end.ensures))
 
 pub returns : goal.returns
 returns c =
     let a = c.args in
-    head-walk a.cut.bytes.now a.at _ _ (omega arith) c.u16_at.ensures c.u8_at.ensures (on_to _) (rw (c.fields-fields.ensures (omega (arith, a.cut.in_file))) at c.in_ok-end.ensures)
+    head-walk a.cut.bytes.now a.at _ _ (omega arith) c.u16_at.ensures c.u8_at.ensures (on_to _) (rw (c.fields-fields.ensures.inside (omega (arith, a.cut.in_file))) at c.in_ok-end.ensures)
