@@ -10,6 +10,7 @@ ghost use Rattle.lent.specs.Laws.{Laws};
 // Writing where the caller has proved that there is room.
 
 // Copies items to the start of a part of a buffer.
+// Kept: a loop. Std's `copy_from_slice` over a length that is not known asks of a C program that it has `memmove`.
 pub fn copy_to<T: Copy>(part: &mut [T], items: &[T])
     requires { length items.now ≤ length part.old }
     ensures { part.new ≡ put_at_start part.old items.now }
