@@ -19,7 +19,6 @@ ghost use Rattle.container.specs.PlaceTold.{PlaceTold};
 ghost use Rattle.container.specs.Independence.{SameRun, DebugAlike};
 ghost use Rattle.container.specs.Examples.{Examples};
 
-use base::cut::Cut;
 use base::section::section_cut;
 use debug_tables::in_force::rows_in_force;
 use header::{from_bytes, has_types};
@@ -125,11 +124,11 @@ fn types_of(file: &[u8], header: FileHeader) -> Result<Option<TypeCounts>, Conta
 }
 
 // The state of a debug section that lies in the file behind the header: by its hash, then by its reader.
-fn section_state(cut: Cut, debug_hash: Digest) -> DebugState
-    ensures { debug_state_in cut.entry.bytes.now result ≡ section_state (digest_bytes debug_hash) cut.entry.bytes.now }
+fn section_state(section: &[u8], debug_hash: Digest) -> DebugState
+    ensures { debug_state_in section.now result ≡ section_state (digest_bytes debug_hash) section.now }
 {
-    if debug_hash_matches(debug_hash, cut.bytes) {
-        return match debug_tables::read_from(cut.bytes) {
+    if debug_hash_matches(debug_hash, section) {
+        return match debug_tables::read_from(section) {
             Ok(counts) => DebugState::Read(counts),
             Err(fault) => DebugState::Unreadable(fault),
         };
@@ -146,7 +145,7 @@ pub fn debug_state(file: &[u8], header: FileHeader) -> DebugState
         return DebugState::Empty;
     }
     match section_cut(file, debug) {
-        Ok(cut) => section_state(cut, header.debug_hash),
+        Ok(cut) => section_state(cut.bytes, header.debug_hash),
         Err(_) => DebugState::Outside,
     }
 }
